@@ -1,0 +1,9 @@
+//! The route table, its order of routes, and the choice that routing makes.
+#![tactic(auto)]
+
+mod choice;
+mod config;
+mod copies;
+
+pub use choice::Choice;
+pub use config::{Config, Domain, Host, PathRule, Route};

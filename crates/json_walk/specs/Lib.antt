@@ -1,0 +1,4 @@
+pub mod Outcome
+pub mod Bytes
+pub mod Forms
+pub mod AtTop

@@ -1,0 +1,11 @@
+//! From bytes to JSON, objects with exact members, and refusals with their places.
+#![tactic(auto)]
+
+mod form;
+mod refusal;
+mod value;
+
+pub use form::{one, some_text, three, two};
+pub use refusal::{Kind, ReadFail, Refusal, refused};
+pub use text_base::Text;
+pub use value::read_value;
