@@ -1,0 +1,5 @@
+use Rattle.std.proofs.Common.{◌≡◌, ◌+◌, drop, length, sum_by}
+use Rattle.read_config.proofs.repeats.are_few_routes.Given as goal
+
+abbrev pub invariant-loop-host : goal.invariant-loop-host
+invariant-loop-host l = sum_by (λ h. length h.routes) l.hosts + l.left ≡ 10000 + sum_by (λ h. length h.routes) (drop l.host-index l.hosts)
