@@ -1,5 +1,5 @@
 -- The first form of a configuration: hosts with exact domains or `*`, and routes by prefix or path to one cluster.
-use Rattle.std.specs.Prelude.{ℕ, ◌==◌, ◌&&◌, Bool, nat_lt, nat_le, List, [], ◌∷◌, length, flat_map, map, if◌then◌else◌, Option, Some, None, option_map, option_and_then, is_none, codes, bytes_eq, sum_by}
+use Rattle.std.specs.Prelude.{ℕ, ◌&&◌, Bool, nat_lt, nat_le, List, [], length, flat_map, map, if◌then◌else◌, Option, Some, None, option_map, option_and_then, is_none, codes, bytes_eq, sum_by}
 use Rattle.std.specs.List.{list_all}
 use Rattle.std.specs.Str.{str_to_ascii_lowercase}
 use Rattle.serde_json.specs.Data.{Data}
@@ -9,7 +9,7 @@ use Rattle.text_base.specs.Requests.{some_of}
 use Rattle.json_walk.specs.Outcome.{Outcome, or_offence}
 use Rattle.json_walk.specs.Outcome as outcome
 use Rattle.json_walk.specs.Bytes.{value_at}
-use Rattle.json_walk.specs.Forms.{one, two, three, each, list_of, some_text, ◌>>=◌}
+use Rattle.json_walk.specs.Forms.{one, two, three, list_of, some_text}
 use Rattle.json_walk.specs.declared.refusal.Kind.TheVariants.{NotInProfile}
 use Rattle.cfg_types.specs.declared.config.Config.{Config}
 use Rattle.cfg_types.specs.declared.config.Host.{Host}

@@ -4,6 +4,8 @@
 mod host;
 mod repeats;
 mod route;
+#[cfg(test)]
+mod tests;
 mod texts;
 
 ghost use Rattle.std.specs.Prelude.{◌≡◌, IfOk};

@@ -1,5 +1,5 @@
 -- The first form of a test file: an authority, a path and the cluster that is expected.
-use Rattle.std.specs.Prelude.{ℕ, ◌&&◌, Bool, List, [], Option, Some, None, option_and_then, codes, if◌then◌else◌}
+use Rattle.std.specs.Prelude.{ℕ, ◌&&◌, List, [], Option, Some, None, option_and_then, codes, if◌then◌else◌}
 use Rattle.serde_json.specs.Data.{Data}
 use Rattle.serde_json.specs.Find.{as_str}
 use Rattle.text_base.specs.Requests.{is_authority, is_target}

@@ -4,6 +4,8 @@
 mod form;
 mod request;
 mod test;
+#[cfg(test)]
+mod tests;
 
 ghost use Rattle.json_walk.specs.Outcome.{Gives};
 ghost use Rattle.test_read.specs.FirstForm.{tests_of};
