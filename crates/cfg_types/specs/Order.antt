@@ -8,7 +8,7 @@ abbrev pub routes_of : List Host → List Route
 routes_of hosts = flat_map (λ h. h.routes) hosts
 
 -- every route, in route order
-unfoldable pub routes : Config → List Route
+abbrev pub routes : Config → List Route
 routes c = routes_of c.hosts
 
 -- how many routes stand before the host with this number

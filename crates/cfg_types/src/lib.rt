@@ -4,6 +4,7 @@
 mod choice;
 mod config;
 mod copies;
+mod order;
 
 pub use choice::Choice;
 pub use config::{Config, Domain, Host, PathRule, Route};

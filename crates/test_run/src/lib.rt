@@ -1,0 +1,10 @@
+//! Verdicts on tests, the routes that they cover, and the lines that say so.
+#![tactic(auto)]
+
+mod coverage;
+mod lines;
+mod verdicts;
+
+pub use coverage::count_covered;
+pub use lines::{line_of, sum_line, test_line};
+pub use verdicts::{choice_at, cluster_of};
