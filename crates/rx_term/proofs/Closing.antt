@@ -1,11 +1,10 @@
 -- Where words close, no text meets the literals.
-use Rattle.std.proofs.Common.{◌≡◌, ℕ, ◌+◌, ◌<◌, ◌≤◌, Bool, true, false, ◌⊎◌, inl, inr, List, [], ◌∷◌, ◌++◌, map, refl, sym, ◌∙◌, ap, subst, arith, append_assoc}
-use Rattle.std.specs.List.{concat, flat_map, slice_index_or}
-use Rattle.rx_term.specs.declared.sets.ByteSet.{ByteSet}
+use Rattle.std.proofs.Common.{◌≡◌, ℕ, Bool, true, false, inl, inr, List, [], ◌∷◌, ◌++◌, map, refl, sym, ap, subst, append_assoc}
+use Rattle.std.specs.List.{concat, slice_index_or}
 use Rattle.rx_term.specs.declared.terms.Term.{Term, Nothing, Empty, One}
-use Rattle.rx_term.specs.Term.{row_of, choice_of, star_of, has_byte}
-use Rattle.rx_term.specs.Language.{Has, Each, In, nullable, derive, after, state_from, state, accepting, SameSet}
-use Rattle.rx_term.specs.Closing.{IsPrintable, IsWithin, Is, Claim, Meets, terms_of, SameStates, words_from, words, AreEntries, Apart, Closes, ClosingLaw}
+use Rattle.rx_term.specs.Term.{row_of, choice_of, star_of}
+use Rattle.rx_term.specs.Language.{Has, Each, In, derive, after, state_from, state, accepting, SameSet}
+use Rattle.rx_term.specs.Closing.{IsPrintable, IsWithin, Is, Claim, Meets, terms_of, SameStates, words_from, words, Closes, ClosingLaw}
 use Rattle.rx_term.proofs.Language.{Has_left, Has_flat, Has_unflat, accepting_from, accepting_has, state_law}
 
 -- ---- sets of terms

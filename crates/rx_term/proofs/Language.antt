@@ -1,7 +1,6 @@
 -- The laws of partial derivatives.
-use Rattle.std.proofs.Common.{◌≡◌, ℕ, Bool, true, false, ◌&&◌, ◌||◌, cond, ◌⊎◌, inl, inr, List, [], ◌∷◌, ◌++◌, map, refl, sym, ◌∙◌, ap, subst, arith, append_assoc}
-use Rattle.std.specs.List.{concat, flat_map, list_any}
-use Rattle.rx_term.specs.declared.sets.ByteSet.{ByteSet}
+use Rattle.std.proofs.Common.{◌≡◌, ℕ, Bool, true, false, ◌&&◌, ◌||◌, cond, ◌⊎◌, inl, inr, List, [], ◌∷◌, ◌++◌, map, refl, sym, ◌∙◌, ap, subst}
+use Rattle.std.specs.List.{concat, flat_map}
 use Rattle.rx_term.specs.declared.terms.Term.{Term, Nothing, Empty, One}
 use Rattle.rx_term.specs.Term.{row_of, choice_of, star_of, cat, star, has_byte}
 use Rattle.rx_term.specs.Language.{Has, Each, In, nullable, join, derive, after, state_from, state, accepting, DerivativeLaw, MembershipLaw}

@@ -1,5 +1,5 @@
 -- The variants as code makes them are the terms that definitions match on.
-use Rattle.std.proofs.Common.{◌≡◌, ℕ, ◌+◌, refl}
+use Rattle.std.proofs.Common.{◌≡◌, refl}
 use Rattle.rx_term.specs.declared.terms.Term.{Term, Cat, Alt, Star}
 use Rattle.rx_term.specs.declared.terms.Term.TheBlock.{hidden-the_row-Term-0}
 use denote.Hole.Carrier.{hidden}

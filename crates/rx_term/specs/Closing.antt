@@ -1,7 +1,6 @@
 -- A closed list of words, which shows that no text meets a list of literals.
-use Rattle.std.specs.Prelude.{◌≡◌, ℕ, ◌+◌, ◌<◌, ◌≤◌, Bool, true, false, List, [], ◌∷◌, ◌++◌, map, length}
+use Rattle.std.specs.Prelude.{◌≡◌, ℕ, ◌+◌, ◌<◌, ◌≤◌, Bool, true, false, List, [], ◌∷◌, ◌++◌, map}
 use Rattle.std.specs.List.{slice_index_or}
-use Rattle.rx_term.specs.declared.sets.ByteSet.{ByteSet}
 use Rattle.rx_term.specs.declared.terms.Term.{Term, Nothing, Empty, One}
 use Rattle.rx_term.specs.Term.{row_of, choice_of, star_of, has_byte}
 use Rattle.rx_term.specs.Language.{Has, Each, In, state, SameSet}

@@ -1,7 +1,6 @@
 -- Which texts are in a term, its partial derivatives, and the test of membership by them.
 use Rattle.std.specs.Prelude.{◌≡◌, ℕ, Bool, true, false, ◌&&◌, ◌||◌, cond, ◌⊎◌, ◌↔◌, IsTrue, List, [], ◌∷◌, ◌++◌, map}
 use Rattle.std.specs.List.{concat, flat_map, list_any}
-use Rattle.rx_term.specs.declared.sets.ByteSet.{ByteSet}
 use Rattle.rx_term.specs.declared.terms.Term.{Term, Nothing, Empty, One}
 use Rattle.rx_term.specs.Term.{row_of, choice_of, star_of, cat, star, has_byte}
 

@@ -3,12 +3,12 @@
 ghost use Rattle.std.specs.Prelude.{◌≡◌, ◌-◌, ◌^◌, ◌↔◌, IfOk, IsTrue, min};
 ghost use Rattle.rx_term.specs.Term.{nodes};
 
+use crate::layers::{Layer, close};
 use crate::{ByteSet, OutOfMemory};
-use sqlite_items::Boxed;
+use sqlite_items::{Boxed, Items};
 use std::alloc::Global;
 
 /// A regular term over bytes.
-#[derive(Drop)]
 pub enum Term {
     /// No text.
     Nothing,
@@ -22,6 +22,26 @@ pub enum Term {
     Alt(Boxed<Term>, Boxed<Term>),
     /// Any number of texts of the term, put together.
     Star(Boxed<Term>),
+}
+
+// A row is nested to the right and may be thousands of terms long, so what stands on the right is dropped in a loop.
+impl Drop for Term {
+    fn drop(mut self) {
+        loop {
+            match self {
+                Term::Nothing | Term::Empty | Term::One(_) => return,
+                Term::Cat(first, second) => {
+                    let _first = first.into_inner();
+                    self = second.into_inner();
+                }
+                Term::Alt(first, second) => {
+                    let _first = first.into_inner();
+                    self = second.into_inner();
+                }
+                Term::Star(body) => self = body.into_inner(),
+            }
+        }
+    }
 }
 
 impl Term {
@@ -57,23 +77,24 @@ impl Term {
     pub fn size(&self) -> u64
         ensures { result ≡ min (nodes self.now) (2 ^ 64 - 1) }
     {
-        match self {
-            Term::Nothing | Term::Empty | Term::One(_) => 1,
-            Term::Cat(first, second) => {
-                first
-                    .get()
-                    .size()
-                    .saturating_add(second.get().size())
-                    .saturating_add(1)
+        let mut rest = self;
+        let mut before: u64 = 0;
+        loop {
+            match rest {
+                Term::Nothing | Term::Empty | Term::One(_) => return before.saturating_add(1),
+                Term::Cat(first, second) => {
+                    before = before.saturating_add(first.get().size()).saturating_add(1);
+                    rest = second.get();
+                }
+                Term::Alt(first, second) => {
+                    before = before.saturating_add(first.get().size()).saturating_add(1);
+                    rest = second.get();
+                }
+                Term::Star(body) => {
+                    before = before.saturating_add(1);
+                    rest = body.get();
+                }
             }
-            Term::Alt(first, second) => {
-                first
-                    .get()
-                    .size()
-                    .saturating_add(second.get().size())
-                    .saturating_add(1)
-            }
-            Term::Star(body) => body.get().size().saturating_add(1),
         }
     }
 
@@ -81,23 +102,27 @@ impl Term {
     pub fn copy(&self, alloc: Global) -> Result<Term, OutOfMemory>
         ensures { IfOk result (λ t. t ≡ self.now) }
     {
-        match self {
-            Term::Nothing => Ok(Term::Nothing),
-            Term::Empty => Ok(Term::Empty),
-            Term::One(set) => Ok(Term::One(*set)),
-            Term::Cat(first, second) => {
-                let first = first.get().copy(alloc)?;
-                let second = second.get().copy(alloc)?;
-                Term::cat(alloc, first, second)
-            }
-            Term::Alt(first, second) => {
-                let first = first.get().copy(alloc)?;
-                let second = second.get().copy(alloc)?;
-                Term::alt(alloc, first, second)
-            }
-            Term::Star(body) => {
-                let body = body.get().copy(alloc)?;
-                Term::star(alloc, body)
+        let mut layers = Items::new(alloc);
+        let mut rest = self;
+        loop {
+            match rest {
+                Term::Nothing => return close(alloc, layers, Term::Nothing),
+                Term::Empty => return close(alloc, layers, Term::Empty),
+                Term::One(set) => return close(alloc, layers, Term::One(*set)),
+                Term::Cat(first, second) => {
+                    let copied = first.get().copy(alloc)?;
+                    layers.push(Layer::Row(copied))?;
+                    rest = second.get();
+                }
+                Term::Alt(first, second) => {
+                    let copied = first.get().copy(alloc)?;
+                    layers.push(Layer::Choice(copied))?;
+                    rest = second.get();
+                }
+                Term::Star(body) => {
+                    layers.push(Layer::Iteration)?;
+                    rest = body.get();
+                }
             }
         }
     }
@@ -106,18 +131,33 @@ impl Term {
     pub fn same(&self, other: &Term) -> bool
         ensures { IsTrue result ↔ (self.now ≡ other.now) }
     {
-        match (self, other) {
-            (Term::Nothing, Term::Nothing) => true,
-            (Term::Empty, Term::Empty) => true,
-            (Term::One(set), Term::One(against)) => set.0 == against.0,
-            (Term::Cat(first, second), Term::Cat(left, right)) => {
-                first.get().same(left.get()) && second.get().same(right.get())
+        let mut rest = self;
+        let mut against = other;
+        loop {
+            match (rest, against) {
+                (Term::Nothing, Term::Nothing) => return true,
+                (Term::Empty, Term::Empty) => return true,
+                (Term::One(set), Term::One(other)) => return set.0 == other.0,
+                (Term::Cat(first, second), Term::Cat(left, right)) => {
+                    if !first.get().same(left.get()) {
+                        return false;
+                    }
+                    rest = second.get();
+                    against = right.get();
+                }
+                (Term::Alt(first, second), Term::Alt(left, right)) => {
+                    if !first.get().same(left.get()) {
+                        return false;
+                    }
+                    rest = second.get();
+                    against = right.get();
+                }
+                (Term::Star(body), Term::Star(other)) => {
+                    rest = body.get();
+                    against = other.get();
+                }
+                _ => return false,
             }
-            (Term::Alt(first, second), Term::Alt(left, right)) => {
-                first.get().same(left.get()) && second.get().same(right.get())
-            }
-            (Term::Star(body), Term::Star(against)) => body.get().same(against.get()),
-            _ => false,
         }
     }
 }
