@@ -1,14 +1,15 @@
 -- Bytes that no set tells apart have the same derivatives.
-use Rattle.std.proofs.Common.{◌≡◌, ℕ, ◌+◌, ◌-◌, ◌<◌, Bool, true, false, cond, ◌⊎◌, inl, inr, List, [], ◌∷◌, ◌++◌, map, length, get_or, take, refl, sym, ◌∙◌, ap, subst, arith, add-one}
+use Rattle.std.proofs.Common.{◌≡◌, ℕ, ◌+◌, ◌-◌, ◌/◌, ◌%◌, ◌^◌, ◌<◌, ◌≤◌, nat_lt, ◌==◌, ◌&&◌, Bool, true, false, cond, ◌⊎◌, inl, inr, List, [], ◌∷◌, ◌++◌, map, length, get_or, take, refl, sym, ◌∙◌, ap, subst, arith, add-one}
 use Rattle.std.specs.Prelude.{Result, Ok, Err, OnOk}
 use Rattle.std.proofs.lemmas.List.{take_more}
 use Rattle.std.proofs.lemmas.Bool.{cases_eq}
+use Rattle.std.proofs.lemmas.Bool.Decides.{nat_tests}
 use Rattle.rx_term.specs.declared.sets.ByteSet.{ByteSet}
 use Rattle.rx_term.specs.declared.terms.Term.{Term, Nothing, Empty, One}
 use Rattle.rx_term.specs.Term.{row_of, choice_of, star_of, star, has_byte}
 use Rattle.rx_term.specs.Language.{Has, Each, nullable, join, derive, after, state_from, state}
 use Rattle.rx_term.proofs.Language.{Has_left, Has_right, Has_cases, Has_unmap, Has_unflat}
-use Rattle.rx_class.specs.Classes.{sets_of, AreAlike, AddsSets, ClassLaw}
+use Rattle.rx_class.specs.Classes.{sets_of, AreAlike, AddsSets, AlikeLaw}
 
 -- ---- lists
 
@@ -164,8 +165,8 @@ after_alike : (ts : List Term) (a b : ℕ) → Each (λ t. AreAlike (sets_of t) 
 after_alike [] a b h = refl
 after_alike (t ∷ ts) a b h = ap (λ z. z ++ after a ts) (derive_alike t a b h.0) ∙ ap (λ z. derive b t ++ z) (after_alike ts a b h.1)
 
-pub class_law : ClassLaw
-class_law t a b h w = after_alike (state t w) a b (state_sets (λ s. has_byte s a ≡ has_byte s b) w (t ∷ []) (h, tt))
+pub alike_law : AlikeLaw
+alike_law t a b h w = after_alike (state t w) a b (state_sets (λ s. has_byte s a ≡ has_byte s b) w (t ∷ []) (h, tt))
 
 pub on_ok : {A E : Type 0} → (r : Result A E) (P Q : Type 0) → (P → Q) → OnOk r P → OnOk r Q
 on_ok (Ok x) P Q f h = f h
@@ -178,3 +179,18 @@ alike_same (s ∷ sets) b = (refl, alike_same sets b)
 pub alike_back : (sets : List ByteSet) (a b : ℕ) → AreAlike sets a b → AreAlike sets b a
 alike_back [] a b h = tt
 alike_back (s ∷ sets) a b h = (sym h.0, alike_back sets a b h.1)
+
+pub alike_through : (sets : List ByteSet) (a b c : ℕ) → AreAlike sets a b → AreAlike sets b c → AreAlike sets a c
+alike_through [] a b c h k = tt
+alike_through (s ∷ sets) a b c h k = (h.0 ∙ k.0, alike_through sets a b c h.1 k.1)
+
+-- no set has a byte from 128 on, so no set tells them apart
+pub alike_beyond : (sets : List ByteSet) (b : ℕ) → 128 ≤ b → AreAlike sets 128 b
+alike_beyond [] b h = tt
+alike_beyond (s ∷ sets) b h = (sym (none s b h), alike_beyond sets b h)
+  where
+    none : (s : ByteSet) (b : ℕ) → 128 ≤ b → has_byte s b ≡ false
+    none s b h = ap (λ z. z && (s.0 / 2 ^ b % 2 == 1)) (not_below b h)
+      where
+        not_below : (b : ℕ) → 128 ≤ b → nat_lt b 128 ≡ false
+        not_below b h = grind (arith, nat_tests)
