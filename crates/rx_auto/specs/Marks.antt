@@ -1,0 +1,35 @@
+-- Rows of marks, which stand for sets of terms.
+use Rattle.std.specs.Prelude.{◌≡◌, ℕ, ◌<◌, Bool, true, false, ◌⊎◌, List, length}
+use Rattle.std.specs.List.{slice_index_or}
+use Rattle.rx_term.specs.declared.terms.Term.{Term}
+use Rattle.rx_term.specs.Term.{has_byte}
+use Rattle.rx_term.specs.Language.{Has}
+use Rattle.rx_auto.specs.Node.{term_at}
+use Rattle.rx_auto.specs.declared.parts.Spot.{Spot}
+use Rattle.rx_auto.specs.Parts.{spot_at}
+
+abbrev pub mark_at : List Bool → ℕ → Bool
+mark_at row i = slice_index_or row i false
+
+abbrev pub rep_at : List ℕ → ℕ → ℕ
+rep_at reps i = slice_index_or reps i 0
+
+-- one of the positions reads the byte, and its mark is that of j
+abbrev pub Marked : List Spot → List ℕ → ℕ → List ℕ → ℕ → Type 0
+Marked spots reps b ps j = (q : ℕ) × Has ps q × (has_byte (spot_at spots q).set b ≡ true) × (rep_at reps q ≡ j)
+
+-- the new row has the old one's marks and those that are said, and no others
+pub record Adds (old new : List Bool) (M : ℕ → Type 0) : Type 0 where
+  pub only : (j : ℕ) → mark_at new j ≡ true → (mark_at old j ≡ true) ⊎ M j
+  pub kept : (j : ℕ) → mark_at old j ≡ true → mark_at new j ≡ true
+  pub made : (j : ℕ) → M j → mark_at new j ≡ true
+
+-- the marks stand for the set of terms: a term's mark is at its first place
+pub record IsMarked (ts : List Term) (row : List Bool) (set : List Term) : Type 0 where
+  pub forth : (x : Term) → Has set x → (i : ℕ) × (i < length ts) × (mark_at row i ≡ true) × (term_at ts i ≡ x)
+  pub back : (i : ℕ) → i < length ts → mark_at row i ≡ true → Has set (term_at ts i)
+  pub first : (i : ℕ) → i < length ts → mark_at row i ≡ true → (j : ℕ) → j < i → term_at ts j ≡ term_at ts i → ⊥
+
+-- one of the marked positions below n leads to j by the byte
+abbrev pub Fires : List Spot → List ℕ → ℕ → List Bool → ℕ → ℕ → Type 0
+Fires spots reps b from n j = (p : ℕ) × (p < n) × (mark_at from p ≡ true) × Marked spots reps b (spot_at spots p).next j

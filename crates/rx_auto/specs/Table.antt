@@ -1,0 +1,25 @@
+-- The states of a table: the partial derivatives that its term leads to.
+use Rattle.std.specs.Prelude.{◌≡◌, ◌≢◌, ℕ, ◌<◌, ◌≤◌, List, length, map}
+use Rattle.rx_term.specs.declared.terms.Term.{Term}
+use Rattle.rx_auto.specs.Node.{term_at}
+use Rattle.rx_auto.specs.Distinct.{AreDistinct}
+use Rattle.rx_auto.specs.declared.parts.Spot.{Spot}
+use Rattle.rx_auto.specs.Parts.{spot_at, IsSpot}
+use Rattle.rx_auto.specs.Marks.{rep_at}
+
+-- what is left at each position
+abbrev pub tails : List Term → List Spot → List Term
+tails ts spots = map (λ s. term_at ts s.tail) spots
+
+-- the first place at which the same is left
+pub record IsRep (spots : List Spot) (p r : ℕ) : Type 0 where
+  pub low : r ≤ p
+  pub same : (spot_at spots r).tail ≡ (spot_at spots p).tail
+  pub first : (j : ℕ) → j < r → (spot_at spots j).tail ≢ (spot_at spots p).tail
+
+pub record IsTable (ts : List Term) (spots : List Spot) (reps : List ℕ) : Type 0 where
+  pub long : length reps ≡ length spots
+  pub some : 0 < length spots
+  pub each : (p : ℕ) → p < length spots → IsSpot ts spots 0 (length spots) p
+  pub rep : (p : ℕ) → p < length spots → IsRep spots p (rep_at reps p)
+  pub apart : AreDistinct ts
