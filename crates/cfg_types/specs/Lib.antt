@@ -1,0 +1,11 @@
+pub mod Order
+pub mod TextRules
+pub mod PathRules
+pub mod HeaderRules
+pub mod QueryRules
+pub mod Fractions
+pub mod GrpcRules
+pub mod RouteRules
+pub mod Hosts
+pub mod Trees
+pub mod Choices

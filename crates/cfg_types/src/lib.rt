@@ -1,0 +1,20 @@
+//! The configuration: its types, the order of its routes, and the rules of routing that its meaning is stated by.
+#![tactic(auto)]
+
+mod actions;
+mod answers;
+mod changes;
+mod configs;
+mod order;
+mod routes;
+mod rules;
+mod trees;
+
+pub use actions::{Act, Forward, HostChange, PathTo, Redirect, Share, Target};
+pub use answers::{Choice, Reply};
+pub use changes::{Addition, EditPair, Edits, How};
+pub use configs::{Body, Config, Domain, Host, Tls, VirtualCluster};
+
+pub use routes::Route;
+pub use rules::{Fraction, HeaderForm, HeaderRule, PathRule, Pattern, QueryRule, RouteRule, TextForm, TextRule};
+pub use trees::{Entry, InputRule, KeyThen, Predicate, Then, Tree, TreeBody};
