@@ -9,3 +9,12 @@ pub mod RouteRules
 pub mod Hosts
 pub mod Trees
 pub mod Choices
+pub mod Shares
+pub mod Targets
+pub mod Redirects
+pub mod HeaderEdits
+pub mod VirtualClusters
+pub mod Answers
+pub mod Kinds
+pub mod Places
+pub mod Lawful
