@@ -18,3 +18,5 @@ pub mod Answers
 pub mod Kinds
 pub mod Places
 pub mod Lawful
+pub mod HostLaws
+pub mod ChoiceLaws
