@@ -1,7 +1,9 @@
 -- Which parts make a valid request.
-use Rattle.std.specs.Prelude.{ℕ, Bool, false, not, ◌&&◌, ◌==◌, List, [], ◌∷◌, codes, bytes_eq, nat_eq}
+use Rattle.std.specs.Prelude.{ℕ, Bool, false, not, ◌&&◌, ◌==◌, if◌then◌else◌, List, [], ◌∷◌, Option, Some, option_map, position, codes, bytes_eq, nat_eq}
 use Rattle.std.specs.List.{list_all, list_any, starts_with, ends_with}
 use Rattle.text_base.specs.Asked.{Bytes, Head, Asked}
+use Rattle.text_base.specs.declared.request.BadRequest.{BadRequest}
+use Rattle.text_base.specs.declared.request.BadRequest.TheVariants as bad
 use Rattle.text_base.specs.Alphabets.{is_authority_byte, is_token_byte, is_target_byte, is_printed, is_capital}
 
 -- one or more bytes of an alphabet
@@ -40,3 +42,12 @@ is_header h = is_header_name h.0 && is_header_value h.1
 
 abbrev pub is_valid : Asked → Bool
 is_valid q = is_authority q.authority && is_target q.target && is_method q.method && is_runtime q.runtime && list_all is_header q.headers
+
+-- the first part that breaks its rules, in the order authority, target, method, runtime, headers
+abbrev pub first_bad_part : Asked → Option BadRequest
+first_bad_part q =
+    if not (is_authority q.authority) then Some bad.Authority
+    else if not (is_target q.target) then Some bad.Target
+    else if not (is_method q.method) then Some bad.Method
+    else if not (is_runtime q.runtime) then Some bad.Runtime
+    else option_map bad.Header (position (λ h. not (is_header h)) q.headers)

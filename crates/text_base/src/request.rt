@@ -28,6 +28,17 @@ pub struct Parts {
     pub random: u64,
 }
 
+/// The first part of a request that breaks its rules, or want of memory. A header is told by its index.
+#[derive(Clone, Copy, Debug, PartialEq, Eq)]
+pub enum BadRequest {
+    Authority,
+    Target,
+    Method,
+    Runtime,
+    Header { index: u32 },
+    OutOfMemory,
+}
+
 /// Headers by name and value, in order.
 #[derive(Debug, Drop)]
 pub struct Heads {
