@@ -1,5 +1,5 @@
 -- Objects that have exactly these members, and lists whose elements all have a form.
-use Rattle.std.specs.Prelude.{ℕ, suc, List, [], ◌∷◌, ◌==◌, length, if◌then◌else◌, Option, Some, None, option_map, option_and_then}
+use Rattle.std.specs.Prelude.{ℕ, suc, ◌+◌, List, [], ◌∷◌, ◌==◌, length, if◌then◌else◌, Option, Some, None, option_map, option_and_then}
 use Rattle.serde_json.specs.Data.{Data, null, boolean, number, string, array, object, Items, no_items, item, Members, no_members, member}
 use Rattle.serde_json.specs.Find.{get, as_str, as_array}
 
@@ -41,8 +41,16 @@ abbrev pub each : {A : Type 0} → (Data → Option A) → Items → Option (Lis
 each form no_items = Some []
 each form (item d ds) = option_and_then (λ x. option_map (λ xs. x ∷ xs) (each form ds)) (form d)
 
+-- the same, where the form depends on the index of an element, counted from i
+abbrev pub each_at : {A : Type 0} → (ℕ → Data → Option A) → ℕ → Items → Option (List A)
+each_at form i no_items = Some []
+each_at form i (item d ds) = option_and_then (λ x. option_map (λ xs. x ∷ xs) (each_at form (i + 1) ds)) (form i d)
+
 abbrev pub list_of : {A : Type 0} → (Data → Option A) → Data → Option (List A)
 list_of form d = option_and_then (each form) (as_array d)
+
+abbrev pub list_at : {A : Type 0} → (ℕ → Data → Option A) → Data → Option (List A)
+list_at form d = option_and_then (each_at form 0) (as_array d)
 
 -- a text that isn't empty
 unfoldable pub some_text : Data → Option (List ℕ)

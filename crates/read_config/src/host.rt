@@ -1,16 +1,18 @@
 // Virtual hosts.
 ghost use Rattle.std.specs.Prelude.{◌≡◌, IfOk};
 ghost use Rattle.serde_json.specs.View.{view, items_view};
-ghost use Rattle.json_walk.specs.Forms.{each, list_of};
-ghost use Rattle.read_config.specs.FirstForm.{domain_of, host_of, is_host as keeps_limits};
+ghost use Rattle.json_walk.specs.Forms.{each, each_at, list_of, list_at};
+ghost use Rattle.read_config.specs.FirstForm.{domain_of, host_of, host_in, keep_limits as limits_of};
 
-use crate::route::routes;
+use crate::places::host_place;
+use crate::route::{no_pair, routes};
 use crate::texts::domain;
-use cfg_types::{Domain, Host};
+use cfg_types::{Body, Domain, Host, Route, Tls};
 use json_walk::{some_text, three};
 use serde_json::Value;
 use sqlite_items::Items;
 use std::alloc::{AllocError, Global};
+use text_base::Text;
 
 /// The most routes that a host has.
 const ROUTE_LIMIT: usize = 1_000;
@@ -37,15 +39,16 @@ fn domains(alloc: Global, value: &Value) -> Result<Option<Items<Domain>>, AllocE
     }
 }
 
-fn is_host(host: &Host) -> bool
-    ensures { result ≡ keeps_limits host.now }
+fn keep_limits(domains: &[Domain], routes: &[Route]) -> bool
+    ensures { result ≡ limits_of domains.now routes.now }
 {
-    host.domains.len() > 0 && host.routes.len() <= ROUTE_LIMIT
+    domains.len() > 0 && routes.len() <= ROUTE_LIMIT
 }
 
+/// The host at a place.
 #[tactic(auto, unfolding(crate::specs::FirstForm::host_of))]
-fn host(alloc: Global, value: &Value) -> Result<Option<Host>, AllocError>
-    ensures { IfOk result (λ h. h ≡ host_of (view value.now)) }
+fn host(alloc: Global, place: &Text, value: &Value) -> Result<Option<Host>, AllocError>
+    ensures { IfOk result (λ h. h ≡ host_of place.now (view value.now)) }
 {
     let Some((listed, name, tried)) = three(value, "domains", "name", "routes") else {
         return Ok(None);
@@ -56,26 +59,29 @@ fn host(alloc: Global, value: &Value) -> Result<Option<Host>, AllocError>
     let Some(domains) = domains(alloc, listed)? else {
         return Ok(None);
     };
-    let Some(routes) = routes(alloc, tried)? else {
+    let Some(routes) = routes(alloc, place, tried)? else {
         return Ok(None);
     };
-    let host = Host {
-        name,
-        domains,
-        routes,
-    };
-    if !is_host(&host) {
+    if !keep_limits(domains.as_slice(), routes.as_slice()) {
         return Ok(None);
     }
-    Ok(Some(host))
+    Ok(Some(Host {
+        name,
+        domains,
+        body: Body::List(routes),
+        tls: Tls::No,
+        clusters: Items::new(alloc),
+        edits: no_pair(alloc),
+    }))
 }
 
 fn each_host(alloc: Global, list: &[Value]) -> Result<Option<Items<Host>>, AllocError>
-    ensures { IfOk result (λ hs. hs ≡ each host_of (items_view list.now)) }
+    ensures { IfOk result (λ hs. hs ≡ each_at host_in 0 (items_view list.now)) }
 {
     let mut hosts = Vec::new(alloc);
-    for value in list {
-        match host(alloc, value)? {
+    for (index, value) in list.iter().enumerate() {
+        let place = host_place(alloc, index)?;
+        match host(alloc, &place, value)? {
             Some(host) => hosts.push(host)?,
             None => return Ok(None),
         }
@@ -85,7 +91,7 @@ fn each_host(alloc: Global, list: &[Value]) -> Result<Option<Items<Host>>, Alloc
 
 /// The hosts of a list, where the value is a list and each element is a host.
 pub fn hosts(alloc: Global, value: &Value) -> Result<Option<Items<Host>>, AllocError>
-    ensures { IfOk result (λ hs. hs ≡ list_of host_of (view value.now)) }
+    ensures { IfOk result (λ hs. hs ≡ list_at host_in (view value.now)) }
 {
     match value.as_array() {
         Some(list) => each_host(alloc, list.as_slice()),

@@ -2,6 +2,7 @@
 #![tactic(auto)]
 
 mod host;
+mod places;
 mod repeats;
 mod route;
 #[cfg(test)]
@@ -17,6 +18,7 @@ use cfg_types::Config;
 use json_walk::{Kind, ReadFail, one, read_value, refused};
 use serde_json::Value;
 use std::alloc::{AllocError, Global};
+use text_base::Text;
 
 /// The configuration of a value of the first form.
 #[tactic(auto, unfolding(crate::specs::FirstForm::first_form))]
@@ -32,7 +34,14 @@ fn first_form(alloc: Global, value: &Value) -> Result<Option<Config>, AllocError
     if !repeats::are_hosts(alloc, hosts.as_slice())? {
         return Ok(None);
     }
-    Ok(Some(Config { hosts }))
+    Ok(Some(Config {
+        name: Text::of(alloc, "")?,
+        hosts,
+        edits: route::no_pair(alloc),
+        specific_wins: false,
+        ignore_port: false,
+        ignore_params: false,
+    }))
 }
 
 /// The configuration that the bytes stand for, or their first offence: `Syntax` where they are no JSON, `NotInProfile` where the JSON

@@ -1,9 +1,9 @@
 // What holds of all hosts together: the limits on routes and domains, and that no domain stands twice.
 ghost use Rattle.std.specs.Prelude.{◌≡◌, ◌++◌, nat_le, length, sum_by, map, IfOk, OnOk};
-ghost use Rattle.read_config.specs.FirstForm.{are_hosts as are_lawful, domain_text as text_of, domain_texts as texts_of};
+ghost use Rattle.read_config.specs.FirstForm.{are_hosts as are_lawful, listed as listed_in, domain_text as text_of, domain_texts as texts_of};
 ghost use Rattle.read_config.specs.Repeats.{first_repeat as repeat_of};
 
-use cfg_types::{Domain, Host};
+use cfg_types::{Body, Domain, Host};
 use std::alloc::{AllocError, Global};
 use std::collections::BTreeSet;
 
@@ -13,12 +13,21 @@ const ROUTE_LIMIT: usize = 10_000;
 /// The most domains over all hosts.
 const DOMAIN_LIMIT: usize = 4_000;
 
+fn listed(body: &Body) -> usize
+    ensures { result ≡ listed_in body.now }
+{
+    match body {
+        Body::List(routes) => routes.len(),
+        Body::Tree(_) => 0,
+    }
+}
+
 fn are_few_routes(hosts: &[Host]) -> bool
-    ensures { result ≡ nat_le (sum_by (λ h. length h.routes) hosts.now) 10000 }
+    ensures { result ≡ nat_le (sum_by (λ h. listed_in h.body) hosts.now) 10000 }
 {
     let mut left = ROUTE_LIMIT;
     for host in hosts {
-        match left.checked_sub(host.routes.len()) {
+        match left.checked_sub(listed(&host.body)) {
             Some(rest) => left = rest,
             None => return false,
         }
@@ -31,6 +40,8 @@ fn domain_text(domain: &Domain) -> &str
 {
     match domain {
         Domain::Exact(name) => name.as_str(),
+        Domain::Suffix(name) => name.as_str(),
+        Domain::Prefix(name) => name.as_str(),
         Domain::Any => "*",
     }
 }

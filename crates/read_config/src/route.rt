@@ -1,11 +1,12 @@
 // Routes.
 ghost use Rattle.std.specs.Prelude.{◌≡◌, codes, option_and_then, IfOk};
 ghost use Rattle.serde_json.specs.View.{view, items_view};
-ghost use Rattle.json_walk.specs.Forms.{each, list_of, one as only, some_text as some_text_of};
-ghost use Rattle.read_config.specs.FirstForm.{path_rule as path_rule_of, route_of};
+ghost use Rattle.json_walk.specs.Forms.{each_at, list_at, one as only, some_text as some_text_of};
+ghost use Rattle.read_config.specs.FirstForm.{path_rule as path_rule_of, route_of, route_in, forward_to as act_of, rule_with as rule_of, no_edits as none, no_pair as none_of_both};
 
+use crate::places::route_place;
 use crate::texts::path_text;
-use cfg_types::{PathRule, Route};
+use cfg_types::{Act, EditPair, Edits, Forward, HostChange, PathRule, Route, RouteRule, Target};
 use json_walk::{one, some_text, two};
 use serde_json::Value;
 use sqlite_items::Items;
@@ -40,9 +41,52 @@ fn cluster(alloc: Global, value: &Value) -> Result<Option<Text>, AllocError>
     }
 }
 
+fn no_edits(alloc: Global) -> Edits
+    ensures { result ≡ none }
+{
+    Edits {
+        remove: Items::new(alloc),
+        add: Items::new(alloc),
+    }
+}
+
+/// No edits of requests or responses.
+pub fn no_pair(alloc: Global) -> EditPair
+    ensures { result ≡ none_of_both }
+{
+    EditPair {
+        request: no_edits(alloc),
+        response: no_edits(alloc),
+    }
+}
+
+fn rule_with(alloc: Global, path: PathRule) -> RouteRule
+    ensures { result ≡ rule_of path }
+{
+    RouteRule {
+        path,
+        fold: false,
+        headers: Items::new(alloc),
+        queries: Items::new(alloc),
+        grpc: false,
+        fraction: None,
+    }
+}
+
+fn forward_to(alloc: Global, cluster: Text) -> Result<Act, AllocError>
+    ensures { IfOk result (λ act. act ≡ act_of cluster) }
+{
+    Ok(Act::Forward(Forward {
+        to: Target::Cluster(cluster),
+        prefix_rewrite: Text::of(alloc, "")?,
+        host: HostChange::Keep,
+    }))
+}
+
+/// The route at a place.
 #[tactic(auto, unfolding(crate::specs::FirstForm::route_of))]
-fn route(alloc: Global, value: &Value) -> Result<Option<Route>, AllocError>
-    ensures { IfOk result (λ r. r ≡ route_of (view value.now)) }
+fn route(alloc: Global, place: Text, value: &Value) -> Result<Option<Route>, AllocError>
+    ensures { IfOk result (λ r. r ≡ route_of place (view value.now)) }
 {
     let Some((rule, action)) = two(value, "match", "route") else {
         return Ok(None);
@@ -53,15 +97,23 @@ fn route(alloc: Global, value: &Value) -> Result<Option<Route>, AllocError>
     let Some(cluster) = cluster(alloc, action)? else {
         return Ok(None);
     };
-    Ok(Some(Route { path, cluster }))
+    let act = forward_to(alloc, cluster)?;
+    Ok(Some(Route {
+        place,
+        name: Text::of(alloc, "")?,
+        rule: rule_with(alloc, path),
+        act,
+        edits: no_pair(alloc),
+    }))
 }
 
-fn each_route(alloc: Global, list: &[Value]) -> Result<Option<Items<Route>>, AllocError>
-    ensures { IfOk result (λ rs. rs ≡ each route_of (items_view list.now)) }
+fn each_route(alloc: Global, host: &Text, list: &[Value]) -> Result<Option<Items<Route>>, AllocError>
+    ensures { IfOk result (λ rs. rs ≡ each_at (route_in host.now) 0 (items_view list.now)) }
 {
     let mut routes = Vec::new(alloc);
-    for value in list {
-        match route(alloc, value)? {
+    for (index, value) in list.iter().enumerate() {
+        let place = route_place(alloc, host, index)?;
+        match route(alloc, place, value)? {
             Some(route) => routes.push(route)?,
             None => return Ok(None),
         }
@@ -69,12 +121,12 @@ fn each_route(alloc: Global, list: &[Value]) -> Result<Option<Items<Route>>, All
     Ok(Some(Items::from_vec(routes)))
 }
 
-/// The routes of a list, where the value is a list and each element is a route.
-pub fn routes(alloc: Global, value: &Value) -> Result<Option<Items<Route>>, AllocError>
-    ensures { IfOk result (λ rs. rs ≡ list_of route_of (view value.now)) }
+/// The routes of a list of the host at a place, where the value is a list and each element is a route.
+pub fn routes(alloc: Global, host: &Text, value: &Value) -> Result<Option<Items<Route>>, AllocError>
+    ensures { IfOk result (λ rs. rs ≡ list_at (route_in host.now) (view value.now)) }
 {
     match value.as_array() {
-        Some(list) => each_route(alloc, list.as_slice()),
+        Some(list) => each_route(alloc, host, list.as_slice()),
         None => Ok(None),
     }
 }

@@ -1,5 +1,6 @@
-use Rattle.std.proofs.Common.{◌≡◌, ◌+◌, drop, length, sum_by}
+use Rattle.std.proofs.Common.{◌≡◌, ◌+◌, drop, sum_by}
+use Rattle.read_config.specs.FirstForm.{listed}
 use Rattle.read_config.proofs.repeats.are_few_routes.Given as goal
 
 abbrev pub invariant-loop-host : goal.invariant-loop-host
-invariant-loop-host l = sum_by (λ h. length h.routes) l.hosts + l.left ≡ 10000 + sum_by (λ h. length h.routes) (drop l.host-index l.hosts)
+invariant-loop-host l = sum_by (λ h. listed h.body) l.hosts + l.left ≡ 10000 + sum_by (λ h. listed h.body) (drop l.host-index l.hosts)

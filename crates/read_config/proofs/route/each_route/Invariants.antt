@@ -1,7 +1,7 @@
 use Rattle.std.proofs.Common.{drop}
-use Rattle.json_walk.proofs.Lists.{ReadSoFar}
-use Rattle.read_config.specs.FirstForm.{route_of}
+use Rattle.json_walk.proofs.Lists.{ReadSoFarAt}
+use Rattle.read_config.specs.FirstForm.{route_in}
 use Rattle.read_config.proofs.route.each_route.Given as goal
 
-abbrev pub invariant-loop-value : goal.invariant-loop-value
-invariant-loop-value l = ReadSoFar route_of l.routes.items (drop l.value-index l.list) l.list
+abbrev pub invariant-loop-index : goal.invariant-loop-index
+invariant-loop-index l = ReadSoFarAt (route_in l.host) l.routes.items l.index (drop l.index l.list) l.list
