@@ -1,7 +1,7 @@
 -- How `check` goes from step to step.
 use Rattle.std.proofs.Common.{◌≡◌, ◌⊎◌, inl, inr, ℕ, List, Bool, true, false, Option, Some, refl, sym, ◌∙◌, ap, subst, nat_lt, if◌then◌else◌}
 use Rattle.outside.specs.Contents.{Contents}
-use Rattle.cfg_types.specs.declared.config.Config.{Config}
+use Rattle.cfg_types.specs.declared.configs.Config.{Config}
 use Rattle.test_read.specs.declared.test.Test.{Test}
 use Rattle.test_run.specs.Lines.{check_text}
 use Rattle.test_run.specs.Verdicts.{failed}

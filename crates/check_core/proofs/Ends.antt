@@ -10,7 +10,7 @@ use Rattle.check_core.specs.Steps.{HoldsFit, StepEnded, Ended, whole, too_long, 
 use Rattle.run_terms.specs.Run.{FrontOf}
 use Rattle.run_terms.specs.Check.{Stops, is_long, is_bad}
 use Rattle.read_config.specs.FirstForm.{config_of}
-use Rattle.cfg_types.specs.declared.config.Config.{Config}
+use Rattle.cfg_types.specs.declared.configs.Config.{Config}
 use Rattle.run_terms.specs.declared.status.Status.{Status}
 use Rattle.run_terms.specs.declared.status.Status.TheVariants.{TooLong}
 use Rattle.check_core.specs.Statuses.{read_status_of}

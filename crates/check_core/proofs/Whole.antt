@@ -12,7 +12,7 @@ use Rattle.run_terms.specs.Outside.{IsKept, file_limit, IsFile, IsFit, IsThere, 
 use Rattle.run_terms.specs.Run.{AreThere, FrontOf, Ends, Runs}
 use Rattle.run_terms.specs.Check.{Stands, ConfigEnds, long_config, refused_config, TestsEnd, long_tests, refused_tests, Checks, by_config, by_tests, by_verdicts, verdict}
 use Rattle.check_core.specs.Steps.{IsConfig, Ended, whole, too_long, read_fault, write_fault, no_memory, is_final}
-use Rattle.cfg_types.specs.declared.config.Config.{Config}
+use Rattle.cfg_types.specs.declared.configs.Config.{Config}
 use Rattle.run_terms.specs.Words.{check}
 use Rattle.run_terms.specs.declared.status.Status.{Status}
 use Rattle.run_terms.specs.declared.status.Status.TheVariants.{ReadFault, WriteFault, Usage, TooLong, Refused, NoMemory}

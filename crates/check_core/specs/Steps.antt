@@ -3,7 +3,7 @@ use Rattle.std.specs.Prelude.{◌≡◌, ◌⊎◌, ℕ, Bool, true, false, List
 use Rattle.outside.specs.Contents.{Contents}
 use Rattle.outside.specs.Faults.{Rose}
 use Rattle.outside.specs.Written.{Appends, AppendsFront}
-use Rattle.cfg_types.specs.declared.config.Config.{Config}
+use Rattle.cfg_types.specs.declared.configs.Config.{Config}
 use Rattle.test_read.specs.FirstForm.{tests_of}
 use Rattle.test_read.specs.declared.test.Test.{Test}
 use Rattle.run_terms.specs.Outside.{Outside, IsQuiet, IsThere, IsFit}

@@ -1,5 +1,6 @@
 // The command `check`.
 ghost use Rattle.std.specs.Prelude.{◌≡◌, ◌≤◌, List, ℕ, IsTrue};
+ghost use Rattle.cfg_types.specs.Built.{is_built};
 ghost use Rattle.run_terms.specs.Outside.{outside, IsKept};
 ghost use Rattle.run_terms.specs.Run.{IsDue, AreThere, Begins};
 ghost use Rattle.run_terms.specs.Check.{Checks, verdict};
@@ -43,6 +44,7 @@ pub fn run_check<F: Files, K: Sink>(
 
 /// Writes the verdicts.
 fn judge<K: Sink>(alloc: Global, config: &Config, tests: &[Test], out: &mut K) -> Status
+    requires { IsTrue (is_built config.now) }
     ensures text { Finished (check_text config.now tests.now) (verdict (failed config.now tests.now)) (K.written out.old) (K.written out.new) (K.faults out.old) (K.faults out.new) result }
     ensures later { K.faults out.old ≤ K.faults out.new }
 {

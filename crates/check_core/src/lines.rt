@@ -2,7 +2,7 @@
 ghost use Rattle.std.specs.Prelude.{◌≡◌, not, count_by, flat_map, IfOk, length, string_bytes};
 ghost use Rattle.serde_json.specs.View.{view};
 ghost use Rattle.outside.specs.Written.{Wrote};
-ghost use Rattle.test_run.specs.Verdicts.{choice_at as choice_of_test, choices as choices_of, passes, failed as failed_in};
+ghost use Rattle.test_run.specs.Verdicts.{choice_at as choice_of_test, choices as choices_of, IsWithin, passes, failed as failed_in};
 ghost use Rattle.test_run.specs.Lines.{test_line as line_of_test, check_text, sum_line as line_of_sums};
 ghost use Rattle.test_run.specs.Coverage.{covered as covered_by};
 ghost use Rattle.cfg_types.specs.Order.{routes as routes_of};
@@ -63,7 +63,8 @@ fn write_test<K: Sink>(
     test: &Test,
     out: &mut K,
 ) -> Result<bool, WriteFail>
-    requires { choice ≡ choice_of_test config.now test.now }
+    requires choice { choice ≡ choice_of_test config.now test.now }
+    requires within { IsWithin choice (length (routes_of config.now)) }
     ensures line { Wrote (K.written out.old) (K.written out.new) (K.faults out.old) (K.faults out.new) (line_of_test config.now test.now) result }
     ensures passes { IfOk result (λ p. p ≡ passes config.now test.now) }
 {
@@ -88,7 +89,7 @@ struct Verdicts {
 fn write_tests<K: Sink>(
     alloc: Global,
     config: &Config,
-    scan: &Scan,
+    scan: &Scan<'_>,
     tests: &[Test],
     out: &mut K,
 ) -> Result<Verdicts, WriteFail>
@@ -122,16 +123,16 @@ fn write_tests<K: Sink>(
 fn sum_text(
     alloc: Global,
     config: &Config,
+    scan: &Scan<'_>,
     tests: &[Test],
     verdicts: &Verdicts,
 ) -> Result<String, OutOfMemory>
+    requires same { scan.now ≡ config.now }
     requires failed { verdicts.now.failed ≡ failed_in config.now tests.now }
     requires choices { verdicts.now.choices.items ≡ choices_of config.now tests.now }
     ensures { IfOk result (λ s. string_bytes s ≡ line_of_sums (covered_by config.now tests.now) (failed_in config.now tests.now) (length (routes_of config.now)) (length tests.now)) }
 {
-    let Some(routes) = config.count_routes() else {
-        return Err(OutOfMemory);
-    };
+    let routes = scan.count();
     let covered = count_covered(alloc, &verdicts.choices, routes)?;
     sum_line(alloc, covered, verdicts.failed as u64, routes as u64, tests.len() as u64)
 }
@@ -141,7 +142,7 @@ fn sum_text(
 pub fn write_verdicts<K: Sink>(
     alloc: Global,
     config: &Config,
-    scan: &Scan,
+    scan: &Scan<'_>,
     tests: &[Test],
     out: &mut K,
 ) -> Result<usize, WriteFail>
@@ -153,7 +154,7 @@ pub fn write_verdicts<K: Sink>(
         Ok(verdicts) => verdicts,
         Err(fail) => return Err(fail),
     };
-    let Ok(text) = sum_text(alloc, config, tests, &verdicts) else {
+    let Ok(text) = sum_text(alloc, config, scan, tests, &verdicts) else {
         return Err(WriteFail::OutOfMemory);
     };
     match write_whole(out, text.as_bytes()) {

@@ -9,9 +9,10 @@ mod route;
 mod tests;
 mod texts;
 
-ghost use Rattle.std.specs.Prelude.{◌≡◌, IfOk};
+ghost use Rattle.std.specs.Prelude.{◌≡◌, IfOk, IsTrue};
 ghost use Rattle.serde_json.specs.View.{view};
 ghost use Rattle.json_walk.specs.Outcome.{Gives};
+ghost use Rattle.cfg_types.specs.Built.{is_built};
 ghost use Rattle.read_config.specs.FirstForm.{config_of, first_form as form_of};
 
 use cfg_types::Config;
@@ -44,10 +45,8 @@ fn first_form(alloc: Global, value: &Value) -> Result<Option<Config>, AllocError
     }))
 }
 
-/// The configuration that the bytes stand for, or their first offence: `Syntax` where they are no JSON, `NotInProfile` where the JSON
-/// isn't of the first form, each at the empty place. Takes memory for the value, the configuration and the texts of its domains.
 #[tactic(auto, unfolding(crate::specs::FirstForm::config_of))]
-pub fn read_config(alloc: Global, bytes: &[u8]) -> Result<Config, ReadFail>
+fn read_form(alloc: Global, bytes: &[u8]) -> Result<Config, ReadFail>
     ensures { Gives (λ c. c) result (config_of bytes.now) }
 {
     let value = read_value(alloc, bytes)?;
@@ -55,4 +54,14 @@ pub fn read_config(alloc: Global, bytes: &[u8]) -> Result<Config, ReadFail>
         Some(config) => Ok(config),
         None => Err(refused(alloc, Kind::NotInProfile)),
     }
+}
+
+/// The configuration that the bytes stand for, or their first offence: `Syntax` where they are no JSON, `NotInProfile` where the JSON
+/// isn't of the first form, each at the empty place. Takes memory for the value, the configuration and the texts of its domains.
+/// What stands is built: the program routes by it.
+pub fn read_config(alloc: Global, bytes: &[u8]) -> Result<Config, ReadFail>
+    ensures read { Gives (λ c. c) result (config_of bytes.now) }
+    ensures built { IfOk result (λ c. IsTrue (is_built c)) }
+{
+    read_form(alloc, bytes)
 }

@@ -1,7 +1,7 @@
 -- What `check` writes and how it ends: a case for each of its steps, in their order.
 use Rattle.std.specs.Prelude.{◌≡◌, ℕ, ◌<◌, nat_lt, List, [], length, Option, Some, Ok, Err, codes, if◌then◌else◌}
 use Rattle.outside.specs.Contents.{Contents}
-use Rattle.cfg_types.specs.declared.config.Config.{Config}
+use Rattle.cfg_types.specs.declared.configs.Config.{Config}
 use Rattle.json_walk.specs.declared.refusal.Refusal.{Refusal}
 use Rattle.read_config.specs.FirstForm.{config_of}
 use Rattle.test_read.specs.FirstForm.{tests_of}

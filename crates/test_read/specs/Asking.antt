@@ -1,6 +1,6 @@
 -- The request that a test asks.
 use Rattle.text_base.specs.Asked.{Asked}
-use Rattle.cfg_types.specs.Choosing.{plain_request}
+use Rattle.text_base.specs.Asked.{plain_request}
 use Rattle.test_read.specs.declared.test.Test.{Test}
 
 -- a GET over http without headers

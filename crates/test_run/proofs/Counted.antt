@@ -3,7 +3,7 @@ use Rattle.std.proofs.Common.{◌≡◌, ℕ, zero, suc, ◌+◌, ◌<◌, Bool,
 use Rattle.std.proofs.lemmas.List.Sums.{sum_by-cons}
 use Rattle.std.specs.List.{list_any, range_with_len}
 use Rattle.test_run.specs.Coverage.{is_sent_to, covered_among}
-use Rattle.cfg_types.specs.declared.choice.Choice.{Choice}
+use Rattle.cfg_types.specs.declared.answers.Choice.{Choice}
 
 flags_from : (flags : List Bool) (p : ℕ → Bool) (a : ℕ) → ((k : ℕ) → k < length flags → get_or flags k false ≡ p (a + k)) → count_by (λ f. f) flags ≡ count_by p (range_with_len a (length flags))
 flags_from [] p a h = refl

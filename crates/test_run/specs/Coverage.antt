@@ -2,14 +2,15 @@
 use Rattle.std.specs.Prelude.{ℕ, ◌==◌, Bool, false, List, length, count_by}
 use Rattle.std.specs.List.{list_any, range_with_len}
 use Rattle.cfg_types.specs.Order.{routes}
-use Rattle.cfg_types.specs.declared.config.Config.{Config}
-use Rattle.cfg_types.specs.declared.choice.Choice.{Choice}
-use Rattle.cfg_types.specs.declared.choice.Choice.TheVariants as choice
+use Rattle.cfg_types.specs.declared.configs.Config.{Config}
+use Rattle.cfg_types.specs.declared.answers.Choice.{Choice}
+use Rattle.cfg_types.specs.declared.answers.Choice.TheVariants as choice
 use Rattle.test_read.specs.declared.test.Test.{Test}
 use Rattle.test_run.specs.Verdicts.{choices}
 
 abbrev pub is_sent_to : ℕ → Choice → Bool
 is_sent_to r choice.NoHost = false
+is_sent_to r (choice.Tls h) = false
 is_sent_to r (choice.NoRoute h) = false
 is_sent_to r (choice.Chosen k) = k == r
 

@@ -3,7 +3,7 @@ use Rattle.std.specs.Prelude.{ℕ, List, [], ◌∷◌, ◌++◌, length, flat_m
 use Rattle.serde_json.specs.Data.{Data, number, string, array, object, Items, no_items, item, no_members, member, unsigned}
 use Rattle.serde_json.specs.Written.{compact_text}
 use Rattle.cfg_types.specs.Order.{routes}
-use Rattle.cfg_types.specs.declared.config.Config.{Config}
+use Rattle.cfg_types.specs.declared.configs.Config.{Config}
 use Rattle.test_read.specs.declared.test.Test.{Test}
 use Rattle.test_run.specs.Verdicts.{actual_cluster, failed}
 use Rattle.test_run.specs.Coverage.{covered}

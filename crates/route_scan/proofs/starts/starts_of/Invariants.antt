@@ -1,6 +1,6 @@
-use Rattle.std.proofs.Common.{◌≡◌, ◌<◌, ◌^◌, ℕ, length, take, get_or}
-use Rattle.cfg_types.specs.Order.{routes_of, routes_before}
-use Rattle.route_scan.proofs.scan.starts_of.Given as goal
+use Rattle.std.proofs.Common.{◌≡◌, ◌<◌, ◌^◌, ℕ, length, get_or}
+use Rattle.cfg_types.specs.Choices.{routes_before}
+use Rattle.route_scan.proofs.starts.starts_of.Given as goal
 
 abbrev pub invariant-loop-host : goal.invariant-loop-host
 invariant-loop-host l = record {
