@@ -1,0 +1,11 @@
+//! The virtual host of an authority.
+#![tactic(auto)]
+
+mod authority;
+mod domains;
+mod hosts;
+
+pub use hosts::Hosts;
+
+#[cfg(test)]
+mod tests;
