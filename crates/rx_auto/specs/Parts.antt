@@ -12,6 +12,7 @@ use Rattle.rx_auto.specs.declared.parts.Piece.{Piece}
 abbrev pub no_spot : Spot
 no_spot = record { set = record { 0 = 0 }; tail = 0; ends = false; next = [] }
 
+-- the position of a number
 abbrev pub spot_at : List Spot → ℕ → Spot
 spot_at spots p = slice_index_or spots p no_spot
 

@@ -41,22 +41,13 @@ fn starred(alloc: Global, letters: u32, stars: u32) -> Result<Term, OutOfMemory>
 fn slash_and_letters_match(rt: HostRuntime) -> Result<(), Fail> {
     let table = path(rt.alloc())?;
     let mut scratch = Scratch::new(rt.alloc(), table.room())?;
-    let rows: [(&str, bool); 6] = [
-        ("/abc", true),
-        ("/a", true),
-        ("/abd", false),
-        ("/", false),
-        ("", false),
-        ("//a", false),
-    ];
-    for (text, is_in) in rows {
-        assert_eq!(rt;
-            table.matches(text.as_bytes(), &mut scratch),
-            is_in,
-            "{text}"
-        );
-        assert_eq!(rt; scratch.room(), table.room());
-    }
+    assert!(rt; table.matches(b"/abc", &mut scratch));
+    assert!(rt; table.matches(b"/a", &mut scratch));
+    assert!(rt; !table.matches(b"/abd", &mut scratch));
+    assert!(rt; !table.matches(b"/", &mut scratch));
+    assert!(rt; !table.matches(b"", &mut scratch));
+    assert!(rt; !table.matches(b"//a", &mut scratch));
+    assert_eq!(rt; scratch.room(), table.room());
     Ok(())
 }
 
