@@ -63,6 +63,20 @@ module _ (ts : List Term) (spots : List Spot) (piece : Piece) (t : Term) (i : Is
             (λ q a b. (ap (λ y. spot_at y q) e ∙ other q a, (i.each q a b).tail)) (omega arith) (omega (arith, n))));
       }
 
+  -- what is left at each place has a number
+  pub tails_below : (all : List Spot) (n : ℕ) → all ≡ set spots 0 (record { set = record { 0 = 0 }; tail = piece.node; ends = piece.nullable; next = piece.first }) → n ≡ length ts →
+      (p : ℕ) → p < length all → (spot_at all p).tail < n
+  tails_below all n e m p h = elim (cases_eq p 0) [
+    | inl z ↦ subst (λ y. (spot_at all y).tail < n) (sym z)
+        (subst (λ y. y.tail < n) (sym (ap (λ y. spot_at y 0) e ∙ get_or-set_same spots 0 (record { set = record { 0 = 0 }; tail = piece.node; ends = piece.nullable; next = piece.first }) no_spot (omega (arith, i.order, h, long))))
+        (subst (λ y. piece.node < y) (sym m) i.node))
+    | inr z ↦ subst (λ y. y.tail < n) (sym (ap (λ y. spot_at y p) e ∙ other p (omega (arith, z))))
+        (subst (λ y. (spot_at spots p).tail < y) (sym m) (i.each p (omega (arith, z)) (omega (arith, h, long))).tail)
+  ]
+    where
+      long : length all ≡ length spots
+      long = ap length e ∙ length-set spots 0 (record { set = record { 0 = 0 }; tail = piece.node; ends = piece.nullable; next = piece.first })
+
   pub table_first : (all : List Spot) → all ≡ set spots 0 (record { set = record { 0 = 0 }; tail = piece.node; ends = piece.nullable; next = piece.first }) → 0 < length spots →
       (0 < length (tails ts all)) × (term_at (tails ts all) 0 ≡ t)
   table_first all e h =

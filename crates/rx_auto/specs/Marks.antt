@@ -8,9 +8,11 @@ use Rattle.rx_auto.specs.Node.{term_at}
 use Rattle.rx_auto.specs.declared.parts.Spot.{Spot}
 use Rattle.rx_auto.specs.Parts.{spot_at}
 
+-- the mark of a place, none past the end
 abbrev pub mark_at : List Bool → ℕ → Bool
 mark_at row i = slice_index_or row i false
 
+-- the first place of what is left at a place
 abbrev pub rep_at : List ℕ → ℕ → ℕ
 rep_at reps i = slice_index_or reps i 0
 

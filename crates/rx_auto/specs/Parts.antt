@@ -3,7 +3,7 @@ use Rattle.std.specs.Prelude.{◌≡◌, ℕ, ◌<◌, ◌≤◌, Bool, true, fa
 use Rattle.std.specs.List.{slice_index_or}
 use Rattle.rx_term.specs.declared.terms.Term.{Term}
 use Rattle.rx_term.specs.Term.{has_byte}
-use Rattle.rx_term.specs.Language.{Has, nullable, join, derive}
+use Rattle.rx_term.specs.Language.{Has, SameSet, nullable, join, derive}
 use Rattle.rx_auto.specs.Node.{term_at}
 use Rattle.rx_auto.specs.declared.parts.Spot.{Spot}
 use Rattle.rx_auto.specs.declared.parts.Piece.{Piece}
@@ -12,6 +12,7 @@ use Rattle.rx_auto.specs.declared.parts.Piece.{Piece}
 abbrev pub no_spot : Spot
 no_spot = record { set = record { 0 = 0 }; tail = 0; ends = false; next = [] }
 
+-- the position of a number
 abbrev pub spot_at : List Spot → ℕ → Spot
 spot_at spots p = slice_index_or spots p no_spot
 
@@ -59,3 +60,16 @@ pub record Joined (old : List Term) (spots : List Spot) (new : List Term) (after
   pub inside : (p : ℕ) → from ≤ p → p < to → IsJoined old new node null first (spot_at spots p) (spot_at after p)
   pub below : (p : ℕ) → p < from → spot_at after p ≡ spot_at spots p
   pub above : (p : ℕ) → to ≤ p → spot_at after p ≡ spot_at spots p
+
+-- the position is as before, but that its ways may stand in another list with the same members
+pub record IsThinned (spot after : Spot) : Type 0 where
+  pub set : after.set ≡ spot.set
+  pub tail : after.tail ≡ spot.tail
+  pub ends : after.ends ≡ spot.ends
+  pub next : SameSet after.next spot.next
+
+-- the positions below n are as before, and each other one but for the list of its ways
+pub record Thinned (n : ℕ) (spots after : List Spot) : Type 0 where
+  pub long : length after ≡ length spots
+  pub below : Keeps n spots after
+  pub each : (p : ℕ) → IsThinned (spot_at spots p) (spot_at after p)

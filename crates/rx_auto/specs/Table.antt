@@ -1,11 +1,12 @@
 -- The states of a table: the partial derivatives that its term leads to.
-use Rattle.std.specs.Prelude.{◌≡◌, ◌≢◌, ℕ, ◌<◌, ◌≤◌, List, length, map}
+use Rattle.std.specs.Prelude.{◌≡◌, ◌≢◌, ℕ, ◌<◌, ◌≤◌, ◌^◌, List, length, map}
 use Rattle.rx_term.specs.declared.terms.Term.{Term}
 use Rattle.rx_auto.specs.Node.{term_at}
 use Rattle.rx_auto.specs.Distinct.{AreDistinct}
 use Rattle.rx_auto.specs.declared.parts.Spot.{Spot}
 use Rattle.rx_auto.specs.Parts.{spot_at, IsSpot}
 use Rattle.rx_auto.specs.Marks.{rep_at}
+use Rattle.rx_class.specs.Classes.{sets_of, AreClasses}
 
 -- what is left at each position
 abbrev pub tails : List Term → List Spot → List Term
@@ -17,9 +18,16 @@ pub record IsRep (spots : List Spot) (p r : ℕ) : Type 0 where
   pub same : (spot_at spots r).tail ≡ (spot_at spots p).tail
   pub first : (j : ℕ) → j < r → (spot_at spots j).tail ≢ (spot_at spots p).tail
 
+-- the ways on from each position, its first place, and no term twice among those of the numbers
 pub record IsTable (ts : List Term) (spots : List Spot) (reps : List ℕ) : Type 0 where
   pub long : length reps ≡ length spots
   pub some : 0 < length spots
   pub each : (p : ℕ) → p < length spots → IsSpot ts spots 0 (length spots) p
   pub rep : (p : ℕ) → p < length spots → IsRep spots p (rep_at reps p)
   pub apart : AreDistinct ts
+
+-- a table with places that have numbers of 32 bits, and with the classes of its term
+pub record IsWhole (ts : List Term) (spots : List Spot) (reps firsts numbers : List ℕ) : Type 0 where
+  pub table : IsTable ts spots reps
+  pub few : length spots < 2 ^ 32
+  pub classes : AreClasses (sets_of (term_at (tails ts spots) 0)) firsts numbers

@@ -7,12 +7,16 @@ ghost use Rattle.rx_term.specs.Term.{cat, alt, star};
 ghost use Rattle.rx_auto.specs.Parts.{spot_at, Joined, IsJoined, Keeps, IsPiece};
 
 use crate::dag::{Dag, Node};
-use rx_term::{ByteSet, Term};
+use crate::thin::thin;
+use rx_term::{ByteSet, OutOfMemory, Term};
 use sqlite_items::Items;
 use std::alloc::{AllocError, Global};
 
+/// How many positions have numbers.
+pub const MOST: usize = 4_294_967_295;
+
 /// A position of a term, which is one of its byte sets.
-#[derive(Debug, Drop)]
+#[derive(Drop)]
 pub struct Spot {
     /// The bytes that are read here.
     pub set: ByteSet,
@@ -21,29 +25,29 @@ pub struct Spot {
     /// Whether that derivative has the empty text.
     pub ends: bool,
     /// The positions that may come next.
-    pub next: Items<usize>,
+    pub next: Items<u32>,
 }
 
 /// A term that was read.
-#[derive(Debug, Drop)]
+#[derive(Drop)]
 pub struct Piece {
     /// Its number.
     pub node: usize,
     /// Whether it has the empty text.
     pub nullable: bool,
     /// The positions that may come first.
-    pub first: Items<usize>,
+    pub first: Items<u32>,
 }
 
 /// The positions of the terms that were read so far.
-#[derive(Debug, Drop)]
+#[derive(Drop)]
 pub struct Parts {
     pub dag: Dag,
     pub spots: Vec<Spot>,
 }
 
 /// Moves copies of the positions to the end.
-fn push_all(next: &mut Items<usize>, more: &[usize]) -> Result<(), AllocError>
+fn push_all(next: &mut Items<u32>, more: &[u32]) -> Result<(), OutOfMemory>
     ensures { OnOk result (next.new ≡ next.old ++ more.now) }
 {
     for p in more {
@@ -58,8 +62,8 @@ fn join_spot(
     spot: &mut Spot,
     node: usize,
     nullable: bool,
-    first: &[usize],
-) -> Result<(), AllocError>
+    first: &[u32],
+) -> Result<(), OutOfMemory>
     requires tail { spot.old.tail < length dag.old }
     requires node { node < length dag.old }
     ensures kept { Extends dag.old dag.new }
@@ -85,8 +89,8 @@ fn join_spots(
     to: usize,
     node: usize,
     nullable: bool,
-    first: &[usize],
-) -> Result<(), AllocError>
+    first: &[u32],
+) -> Result<(), OutOfMemory>
     requires order { from ≤ to }
     requires end { to ≤ length spots.old.items }
     requires node { node < length dag.old }
@@ -102,7 +106,7 @@ fn join_spots(
 
 impl Parts {
     /// Reads a term: its positions come after those that stand here.
-    pub fn fill(&mut self, alloc: Global, term: &Term) -> Result<Piece, AllocError>
+    pub fn fill(&mut self, alloc: Global, term: &Term) -> Result<Piece, OutOfMemory>
         ensures kept { IfOk result (λ _. Extends self.old.dag self.new.dag) }
         ensures before { IfOk result (λ _. Keeps (length self.old.spots.items) self.old.spots.items self.new.spots.items) }
         ensures piece { IfOk result (λ piece. IsPiece self.new.dag self.new.spots.items (length self.old.spots.items) (length self.new.spots.items) piece term.now) }
@@ -142,20 +146,24 @@ impl Parts {
             Term::Star(body) => {
                 let from = self.spots.len();
                 let piece = self.fill(alloc, body.get())?;
-                self.star(from, piece, body.get())
+                self.star(alloc, from, piece, body.get())
             }
         }
     }
 
-    fn fill_one(&mut self, alloc: Global, set: ByteSet) -> Result<Piece, AllocError>
+    fn fill_one(&mut self, alloc: Global, set: ByteSet) -> Result<Piece, OutOfMemory>
         ensures kept { IfOk result (λ _. Extends self.old.dag self.new.dag) }
         ensures before { IfOk result (λ _. Keeps (length self.old.spots.items) self.old.spots.items self.new.spots.items) }
         ensures piece { IfOk result (λ piece. IsPiece self.new.dag self.new.spots.items (length self.old.spots.items) (length self.new.spots.items) piece (Term.One set)) }
     {
         let tail = self.dag.add(Node::Empty)?;
         let node = self.dag.add(Node::One(set))?;
+        let place = self.spots.len();
+        if place >= MOST {
+            return Err(AllocError);
+        }
         let mut first = Items::new(alloc);
-        first.push(self.spots.len())?;
+        first.push(place as u32)?;
         self.spots.push(Spot {
             set,
             tail,
@@ -177,7 +185,7 @@ impl Parts {
         right: Piece,
         s: &Term,
         u: &Term,
-    ) -> Result<Piece, AllocError>
+    ) -> Result<Piece, OutOfMemory>
         requires left { IsPiece self.old.dag self.old.spots.items from to left s.now }
         requires right { IsPiece self.old.dag self.old.spots.items to (length self.old.spots.items) right u.now }
         ensures kept { IfOk result (λ _. Extends self.old.dag self.new.dag) }
@@ -218,7 +226,7 @@ impl Parts {
         right: Piece,
         s: &Term,
         u: &Term,
-    ) -> Result<Piece, AllocError>
+    ) -> Result<Piece, OutOfMemory>
         requires left { IsPiece self.old.dag self.old.spots.items from to left s.now }
         requires right { IsPiece self.old.dag self.old.spots.items to (length self.old.spots.items) right u.now }
         ensures kept { IfOk result (λ _. Extends self.old.dag self.new.dag) }
@@ -240,7 +248,13 @@ impl Parts {
         })
     }
 
-    fn star(&mut self, from: usize, body: Piece, s: &Term) -> Result<Piece, AllocError>
+    fn star(
+        &mut self,
+        alloc: Global,
+        from: usize,
+        body: Piece,
+        s: &Term,
+    ) -> Result<Piece, OutOfMemory>
         requires body { IsPiece self.old.dag self.old.spots.items from (length self.old.spots.items) body s.now }
         ensures kept { IfOk result (λ _. Extends self.old.dag self.new.dag) }
         ensures before { IfOk result (λ _. Keeps from self.old.spots.items self.new.spots.items) }
@@ -263,6 +277,7 @@ impl Parts {
             true,
             first.as_slice(),
         )?;
+        thin(alloc, &mut self.spots, from, to)?;
         Ok(Piece {
             node: whole,
             nullable: true,

@@ -1,28 +1,32 @@
 //! The table of a term, and the sets of its partial derivatives.
 
-ghost use Rattle.std.specs.Prelude.{◌≡◌, ◌<◌, ◌≤◌, ◌+◌, ◌^◌, ◌↔◌, ◌∷◌, [], ℕ, true, Bool, List, length, IfOk, OnOk, IsTrue};
+ghost use Rattle.std.specs.Prelude.{◌≡◌, ◌<◌, ◌≤◌, ◌+◌, ◌^◌, ◌↔◌, ◌∷◌, [], true, List, length, IfOk, OnOk, IsTrue};
 ghost use Rattle.rx_term.specs.declared.terms.Term.{Term};
-ghost use Rattle.rx_term.specs.Language.{In, after, accepting, nullable, SameSet};
+ghost use Rattle.rx_term.specs.Language.{In, after, accepting, nullable};
 ghost use Rattle.rx_auto.specs.Node.{term_at};
-ghost use Rattle.rx_auto.specs.Marks.{IsMarked, rep_at};
-ghost use Rattle.rx_auto.specs.Table.{IsRep};
+ghost use Rattle.rx_auto.specs.Marks.{IsMarked};
 ghost use Rattle.rx_auto.specs.Live.{IsAscending, AddsNumbers, IsBehind, HasPlaces};
+ghost use Rattle.rx_class.specs.Classes.{sets_of, AreClasses, IsClassOf, IsClassCount};
 
 use crate::dag::Dag;
+use crate::firsts::all_firsts;
 use crate::live::put_ways;
 use crate::marks::{advance, clear};
-use crate::parts::{Parts, Spot};
-use rx_term::{ByteSet, Term};
+use crate::parts::{MOST, Parts, Spot};
+use crate::states::{Scratch, StateSet};
+use rx_class::{Classes, add_sets};
+use rx_term::{ByteSet, OutOfMemory, Term};
 use sqlite_items::Items;
 use std::alloc::{AllocError, Global};
 use std::marker::Model;
 
-/// The partial derivatives of a term, by number, and where each leads.
-#[derive(Debug, Drop)]
+/// The partial derivatives of a term, one for each position, and where each leads.
+#[derive(Drop)]
 pub struct Table {
     dag: Dag,
     spots: Vec<Spot>,
-    reps: Vec<usize>,
+    reps: Vec<u32>,
+    classes: Classes,
 }
 
 /// Contracts see a table as the list of the derivatives, its own term first.
@@ -36,108 +40,25 @@ impl Model for Table {
 
     ghost coded = { coded_list of_term.the_row.coded };
 
-    ghost use Rattle.rx_auto.specs.Table.{tails, IsTable};
+    ghost use Rattle.rx_auto.specs.Table.{tails, IsWhole};
 
     ghost view = { λ t. tails t.dag t.spots.items };
 
-    ghost invariant = { λ t. IsTable t.dag t.spots.items t.reps.items };
+    ghost invariant = { λ t. IsWhole t.dag t.spots.items t.reps.items t.classes.firsts t.classes.numbers };
 }
 
-/// The first position at which the same is left.
-fn first_of(spots: &[Spot], p: usize) -> usize
-    requires { p < length spots.now }
-    ensures { IsRep spots.now p result }
+/// The classes of the bytes under the sets of a term.
+fn classes_of(alloc: Global, term: &Term) -> Result<Classes, OutOfMemory>
+    ensures { IfOk result (λ c. AreClasses (sets_of term.now) c.firsts c.numbers) }
 {
-    for q in 0..p {
-        if spots[q].tail == spots[p].tail {
-            return q;
-        }
-    }
-    p
-}
-
-fn all_firsts(alloc: Global, spots: &[Spot]) -> Result<Vec<usize>, AllocError>
-    ensures long { IfOk result (λ reps. length reps.items ≡ length spots.now) }
-    ensures rep { IfOk result (λ reps. (p : ℕ) → p < length spots.now → IsRep spots.now p (rep_at reps.items p)) }
-{
-    let mut reps = Vec::new(alloc);
-    for p in 0..spots.len() {
-        reps.push(first_of(spots, p))?;
-    }
-    Ok(reps)
-}
-
-/// A set of the derivatives of a table, as a row of marks.
-#[derive(Debug, Drop)]
-pub struct StateSet {
-    row: Vec<bool>,
-    spare: Vec<bool>,
-}
-
-impl Model for StateSet {
-    ghost use Rattle.std.specs.Prelude.{◌≡◌, List, Bool, length};
-
-    ghost Value = { List Bool };
-
-    ghost view = { λ s. s.row.items };
-
-    ghost invariant = { λ s. length s.spare.items ≡ length s.row.items };
-}
-
-/// Room for two rows of marks.
-#[derive(Debug, Drop)]
-pub struct Scratch {
-    row: Vec<bool>,
-    spare: Vec<bool>,
-}
-
-impl Model for Scratch {
-    ghost use Rattle.std.specs.Prelude.{◌≡◌, ℕ, length};
-
-    ghost Value = { ℕ };
-
-    ghost view = { λ s. length s.row.items };
-
-    ghost invariant = { λ s. length s.spare.items ≡ length s.row.items };
-}
-
-impl Scratch {
-    pub fn new(alloc: Global, room: usize) -> Result<Scratch, AllocError>
-        ensures { IfOk result (λ s. s ≡ room) }
-    {
-        Ok(Scratch {
-            row: vec![in alloc; false; room]?,
-            spare: vec![in alloc; false; room]?,
-        })
-    }
-
-    pub fn room(&self) -> usize
-        ensures { result ≡ self.now }
-    {
-        self.row.len()
-    }
-}
-
-impl StateSet {
-    /// Whether two sets of one table are the same.
-    pub fn same(&self, other: &StateSet) -> bool
-        ensures { IsTrue result ↔ (self.now ≡ other.now) }
-    {
-        self.row == other.row
-    }
-
-    pub fn copy(&self, alloc: Global) -> Result<StateSet, AllocError>
-        ensures { IfOk result (λ s. s ≡ self.now) }
-    {
-        Ok(StateSet {
-            row: Vec::from_slice(alloc, &self.row)?,
-            spare: Vec::from_slice(alloc, &self.spare)?,
-        })
-    }
+    let mut sets = Vec::new(alloc);
+    add_sets(&mut sets, term)?;
+    Classes::of(alloc, &sets)
 }
 
 impl Table {
-    pub fn build(alloc: Global, term: &Term) -> Result<Table, AllocError>
+    /// The table of a term. More than 4,294,967,295 positions are answered as want of memory.
+    pub fn build(alloc: Global, term: &Term) -> Result<Table, OutOfMemory>
         ensures { IfOk result (λ t. (0 < length t) × (term_at t 0 ≡ term.now)) }
     {
         let mut parts = Parts {
@@ -158,18 +79,44 @@ impl Table {
             ends: piece.nullable,
             next: piece.first,
         };
+        if spots.len() > MOST {
+            return Err(AllocError);
+        }
         dag.known();
-        let reps = all_firsts(alloc, &spots)?;
-        Ok(Table { dag, spots, reps })
+        let reps = all_firsts(alloc, &spots, dag.len())?;
+        let classes = classes_of(alloc, term)?;
+        Ok(Table {
+            dag,
+            spots,
+            reps,
+            classes,
+        })
     }
 
-    pub fn room(&self) -> usize
+    /// The room that `matches` needs, one for each position. Takes no memory.
+    pub fn room(&self) -> u32
         ensures { result ≡ length self.now }
     {
-        self.spots.len()
+        self.spots.len() as u32
     }
 
-    pub fn start(&self, alloc: Global) -> Result<StateSet, AllocError>
+    /// How many classes of bytes there are. Takes no memory.
+    pub fn classes(&self) -> u8
+        ensures count { IsClassCount (sets_of (term_at self.now 0)) result }
+        ensures few { result ≤ 129 }
+    {
+        self.classes.count()
+    }
+
+    /// The class of a byte. Two bytes of one class lead from each state to the same state. Takes no memory.
+    pub fn class_of(&self, byte: u8) -> u8
+        ensures { IsClassOf (sets_of (term_at self.now 0)) byte result }
+    {
+        self.classes.class_of(byte)
+    }
+
+    /// The state after the empty word: the term alone.
+    pub fn start(&self, alloc: Global) -> Result<StateSet, OutOfMemory>
         ensures { IfOk result (λ s. (length s ≡ length self.now) × IsMarked self.now s (term_at self.now 0 ∷ [])) }
     {
         let mut row = vec![in alloc; false; self.spots.len()]?;
@@ -180,6 +127,7 @@ impl Table {
         })
     }
 
+    /// The state after one more byte. Takes no memory.
     pub fn step(&self, state: &mut StateSet, byte: u8)
         requires { length state.old ≡ length self.now }
         ensures room { length state.new ≡ length self.now }
@@ -202,6 +150,7 @@ impl Table {
         false
     }
 
+    /// Whether the empty text is in one of the set's terms. Takes no memory.
     pub fn accepts(&self, state: &StateSet) -> bool
         requires { length state.now ≡ length self.now }
         ensures { (set : List Term) → IsMarked self.now state.now set → (IsTrue result ↔ (accepting set ≡ true)) }
@@ -230,7 +179,7 @@ impl Table {
         advance(&self.spots, &self.reps, from, to, byte);
     }
 
-    /// Whether the text is in the term. No memory is taken.
+    /// Whether the text is in the term. Takes no memory.
     pub fn matches(&self, text: &[u8], scratch: &mut Scratch) -> bool
         requires { length self.now ≤ scratch.old }
         ensures room { scratch.new ≡ scratch.old }
@@ -249,11 +198,11 @@ impl Table {
     /// Adds to an ascending list the places that a byte leads to from one place, each behind the base.
     pub fn lead(
         &self,
-        place: usize,
+        place: u32,
         byte: u8,
         base: u64,
         to: &mut Vec<u64>,
-    ) -> Result<(), AllocError>
+    ) -> Result<(), OutOfMemory>
         requires place { place < length self.now }
         requires room { base + length self.now ≤ 2 ^ 64 }
         requires ascending { IsAscending to.old.items }
@@ -262,7 +211,7 @@ impl Table {
         put_ways(
             &self.spots,
             &self.reps,
-            self.spots[place].next.as_slice(),
+            self.spots[place as usize].next.as_slice(),
             byte,
             base,
             to,
@@ -270,11 +219,11 @@ impl Table {
     }
 
     /// Whether the empty text is in the term of a place.
-    pub fn ends_at(&self, place: usize) -> bool
+    pub fn ends_at(&self, place: u32) -> bool
         requires { place < length self.now }
         ensures { result ≡ nullable (term_at self.now place) }
     {
-        self.spots[place].ends
+        self.spots[place as usize].ends
     }
 
     /// Each partial derivative has a place.
@@ -282,48 +231,5 @@ impl Table {
         ensures { HasPlaces self.now }
     {
         let _ = &self.spots;
-    }
-}
-
-/// Rows of one table are equal exactly where they stand for one set.
-pub fn rows_law()
-    ensures { (ts : List Term) (r o : List Bool) (a b : List Term) → length r ≡ length ts → length o ≡ length ts → IsMarked ts r a → IsMarked ts o b → (r ≡ o ↔ SameSet a b) }
-{}
-
-#[cfg(test)]
-mod tests {
-    use crate::table::{Scratch, Table};
-    use rx_term::{ByteSet, Term};
-    use std::alloc::AllocError;
-
-    fn byte(b: u32) -> Term {
-        if b < 128 {
-            Term::One(ByteSet(1u128 << b))
-        } else {
-            Term::Nothing
-        }
-    }
-
-    #[test]
-    fn slash_and_letters(rt: HostRuntime) -> Result<(), AllocError> {
-        let alloc = rt.alloc();
-        let letters = Term::One(ByteSet((1u128 << 97) | (1u128 << 98) | (1u128 << 99)));
-        let more = Term::star(alloc, letters.copy(alloc)?)?;
-        let plus = Term::cat(alloc, letters, more)?;
-        let term = Term::cat(alloc, byte(47), plus)?;
-        let table = Table::build(alloc, &term)?;
-        let mut scratch = Scratch::new(alloc, table.room())?;
-        assert!(&rt; table.matches(b"/abc", &mut scratch));
-        assert!(&rt; !table.matches(b"/abd", &mut scratch));
-        assert!(&rt; !table.matches(b"/", &mut scratch));
-        assert!(&rt; table.matches(b"/a", &mut scratch));
-        let mut one = table.start(alloc)?;
-        table.step(&mut one, 47);
-        table.step(&mut one, 97);
-        let two = one.copy(alloc)?;
-        table.step(&mut one, 99);
-        assert!(&rt; one.same(&two));
-        assert!(&rt; table.accepts(&one));
-        Ok(())
     }
 }

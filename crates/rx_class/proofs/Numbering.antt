@@ -5,7 +5,9 @@ use Rattle.std.proofs.Math.Seq.{get_or-append_seam}
 use Rattle.std.proofs.lemmas.Bool.{cases_lt}
 use Rattle.rx_term.specs.declared.sets.ByteSet.{ByteSet}
 use Rattle.rx_class.specs.Classes.{AreAlike, AreClasses, IsClassOf}
-use Rattle.rx_class.proofs.Likeness.{alike_same, alike_through, alike_beyond}
+use Rattle.rx_term.specs.Term.{has_byte}
+use Rattle.rx_term.specs.Language.{Has}
+use Rattle.rx_class.proofs.Likeness.{Each_has, Each_from, alike_same, alike_through, alike_beyond}
 
 -- the classes of the bytes below n
 pub record AreNumbered (sets : List ByteSet) (firsts numbers : List ℕ) (n : ℕ) : Type 0 where
@@ -128,3 +130,18 @@ numbered_begun sets firsts seen numbers n i firsts' numbers' old e none l p q =
     let none' = subst (λ (s : List ℕ). (k : ℕ) → k < length s → AreAlike sets (get_or s k 0) n → ⊥) e none in
     subst (λ z. AreNumbered sets z numbers' (n + 1)) (sym p)
     (subst (λ z. AreNumbered sets (firsts ++ n ∷ []) z (n + 1)) (sym (q ∙ ap (λ z. numbers ++ z ∷ []) l)) (numbered_new sets firsts numbers n old none'))
+
+-- lists with the same sets have the same classes
+pub classes_for : (xs ys : List ByteSet) (firsts numbers : List ℕ) → ((s : ByteSet) → Has xs s → Has ys s) → ((s : ByteSet) → Has ys s → Has xs s) →
+    AreClasses xs firsts numbers → AreClasses ys firsts numbers
+classes_for xs ys firsts numbers f g c = record {
+  first = record {
+    ascending = c.first.ascending;
+    least = λ i a h l e. c.first.least i a h l (like xs ys f a (get_or firsts i 0) e);
+    each = λ b. let r = c.first.each b in (r.0, r.1, like ys xs g (get_or firsts r.0 0) b r.2);
+  };
+  number = λ b h. let r = c.number b h in (r.0, like ys xs g (get_or firsts (get_or numbers b 0) 0) b r.1);
+}
+  where
+    like : (us vs : List ByteSet) → ((s : ByteSet) → Has us s → Has vs s) → (a b : ℕ) → AreAlike vs a b → AreAlike us a b
+    like us vs h a b e = Each_from (λ s. has_byte s a ≡ has_byte s b) us (λ s k. Each_has (λ s. has_byte s a ≡ has_byte s b) vs s e (h s k))

@@ -4,7 +4,7 @@ ghost use Rattle.std.specs.Prelude.{◌≡◌};
 ghost use Rattle.rx_term.specs.Term.{has_byte};
 
 /// A set of bytes: bit k stands for byte k, so bytes from 128 on are in no set.
-#[derive(Clone, Copy, Debug, PartialEq, Eq)]
+#[derive(Clone, Copy, PartialEq, Eq, Hash)]
 pub struct ByteSet(pub u128);
 
 impl ByteSet {

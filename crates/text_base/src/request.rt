@@ -1,4 +1,6 @@
 // The parts of a request, and what rules can name of one.
+ghost use Rattle.std.specs.Prelude.{◌≡◌};
+
 use crate::Text;
 use sqlite_items::Items;
 
@@ -13,6 +15,31 @@ pub enum Field {
     Runtime,
     Internal,
     Header(Text),
+}
+
+impl Field {
+    ghost use Rattle.text_base.specs.Seen.{field_named};
+
+    /// The field that a name of a header stands for: `:authority`, `:path`, `:method`, `x-forwarded-proto` and
+    /// `x-envoy-internal` stand for parts of the request. Takes no memory.
+    pub fn of_header(name: Text) -> Field
+        ensures { result ≡ field_named name }
+    {
+        let text = name.as_str();
+        if text == ":authority" {
+            Field::Authority
+        } else if text == ":path" {
+            Field::Target
+        } else if text == ":method" {
+            Field::Method
+        } else if text == "x-forwarded-proto" {
+            Field::Proto
+        } else if text == "x-envoy-internal" {
+            Field::Internal
+        } else {
+            Field::Header(name)
+        }
+    }
 }
 
 /// The parts of a request, valid or not. `https` stands for the proto, and an empty `runtime` for none.

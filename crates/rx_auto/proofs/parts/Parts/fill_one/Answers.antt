@@ -11,8 +11,8 @@ pub returns-clause-piece : goal.returns-clause-piece
 returns-clause-piece c =
     let spot : Spot = record { set = c.args.set; tail = c.in_ok-tail.tail; ends = true; next = c.new.result } in
     let all : c.push-2.new.self.items ≡ c.args.self.now.spots.items ++ spot ∷ [] = c.in_ok-push-2.ensures.items in
-    let l : c.len.result ≡ length c.args.self.now.spots.items = search rules in
-    let f : length c.args.self.now.spots.items ∷ [] ≡ c.push.new.self = sym (c.in_ok-push.ensures.ok ∙ ap (λ z. z ++ c.len.result ∷ []) c.new-first.ensures ∙ ap (λ z. z ∷ []) l) in
+    let l : c.len-place.result ≡ length c.args.self.now.spots.items = search rules in
+    let f : length c.args.self.now.spots.items ∷ [] ≡ c.push.new.self = sym (c.in_ok-push.ensures.ok ∙ ap (λ z. z ++ c.len-place.result ∷ []) c.new-first.ensures ∙ ap (λ z. z ∷ []) l) in
     let t : c.in_ok-tail.tail < length c.add-2.new.self = omega (arith, Extends_long _ _ c.add-2.ensures.kept, c.in_ok-tail.ensures.found.0) in
     let u : term_at c.add-2.new.self c.in_ok-tail.tail ≡ Empty = Extends_at _ _ c.in_ok-tail.tail c.add-2.ensures.kept c.in_ok-tail.ensures.found.0 ∙ c.in_ok-tail.ensures.found.1 in
     subst (λ z. IsPiece c.add-2.new.self z (length c.args.self.now.spots.items) (length z) (record { node = c.in_ok-node.node; nullable = false; first = c.push.new.self }) (One c.args.set)) (sym all)

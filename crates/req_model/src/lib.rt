@@ -1,0 +1,15 @@
+//! Requests that are valid by their type, and what is seen of them.
+#![tactic(auto)]
+
+mod bytes;
+mod faults;
+mod joined;
+mod query;
+mod request;
+mod search;
+
+pub use request::Request;
+pub use text_base::{BadRequest, Field, Heads, OutOfMemory, Parts, Text};
+
+#[cfg(test)]
+mod tests;
