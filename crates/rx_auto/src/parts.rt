@@ -5,8 +5,10 @@ ghost use Rattle.rx_auto.specs.Distinct.{Extends};
 ghost use Rattle.rx_term.specs.declared.terms.Term.{Term};
 ghost use Rattle.rx_term.specs.Term.{cat, alt, star};
 ghost use Rattle.rx_auto.specs.Parts.{spot_at, Joined, IsJoined, Keeps, IsPiece};
+ghost use Rattle.rx_auto.specs.Layers.{IsNearly};
 
 use crate::dag::{Dag, Node};
+use crate::layers::Layer;
 use crate::thin::thin;
 use rx_term::{ByteSet, OutOfMemory, Term};
 use sqlite_items::Items;
@@ -105,50 +107,99 @@ fn join_spots(
 }
 
 impl Parts {
-    /// Reads a term: its positions come after those that stand here.
+    /// Reads a term: its positions come after those that stand here. A term may be nested deeply to the right.
     pub fn fill(&mut self, alloc: Global, term: &Term) -> Result<Piece, OutOfMemory>
         ensures kept { IfOk result (λ _. Extends self.old.dag self.new.dag) }
         ensures before { IfOk result (λ _. Keeps (length self.old.spots.items) self.old.spots.items self.new.spots.items) }
         ensures piece { IfOk result (λ piece. IsPiece self.new.dag self.new.spots.items (length self.old.spots.items) (length self.new.spots.items) piece term.now) }
     {
-        match term {
-            Term::Nothing => {
-                let node = self.dag.add(Node::Nothing)?;
-                Ok(Piece {
-                    node,
-                    nullable: false,
-                    first: Items::new(alloc),
-                })
-            }
-            Term::Empty => {
-                let node = self.dag.add(Node::Empty)?;
-                Ok(Piece {
-                    node,
-                    nullable: true,
-                    first: Items::new(alloc),
-                })
-            }
-            Term::One(set) => self.fill_one(alloc, *set),
-            Term::Cat(first, second) => {
-                let from = self.spots.len();
-                let left = self.fill(alloc, first.get())?;
-                let to = self.spots.len();
-                let right = self.fill(alloc, second.get())?;
-                self.cat(from, to, left, right, first.get(), second.get())
-            }
-            Term::Alt(first, second) => {
-                let from = self.spots.len();
-                let left = self.fill(alloc, first.get())?;
-                let to = self.spots.len();
-                let right = self.fill(alloc, second.get())?;
-                self.alt(from, to, left, right, first.get(), second.get())
-            }
-            Term::Star(body) => {
-                let from = self.spots.len();
-                let piece = self.fill(alloc, body.get())?;
-                self.star(alloc, from, piece, body.get())
+        let low = self.spots.len();
+        let mut layers = Items::new(alloc);
+        let mut rest = term;
+        loop {
+            let from = self.spots.len();
+            match rest {
+                Term::Nothing => {
+                    let piece = self.fill_nothing(alloc)?;
+                    return self.close(alloc, low, layers, piece, term);
+                }
+                Term::Empty => {
+                    let piece = self.fill_empty(alloc)?;
+                    return self.close(alloc, low, layers, piece, term);
+                }
+                Term::One(set) => {
+                    let piece = self.fill_one(alloc, *set)?;
+                    return self.close(alloc, low, layers, piece, term);
+                }
+                Term::Cat(first, second) => {
+                    let left = self.fill(alloc, first.get())?;
+                    let to = self.spots.len();
+                    layers.push(Layer::Row { from, to, left })?;
+                    rest = second.get();
+                }
+                Term::Alt(first, second) => {
+                    let left = self.fill(alloc, first.get())?;
+                    let to = self.spots.len();
+                    layers.push(Layer::Choice { from, to, left })?;
+                    rest = second.get();
+                }
+                Term::Star(body) => {
+                    layers.push(Layer::Loop { from })?;
+                    rest = body.get();
+                }
             }
         }
+    }
+
+    /// Closes the layers around the piece that was read last, from the innermost one.
+    fn close(
+        &mut self,
+        alloc: Global,
+        low: usize,
+        mut layers: Items<Layer>,
+        mut piece: Piece,
+        term: &Term,
+    ) -> Result<Piece, OutOfMemory>
+        requires { IsNearly self.old.dag self.old.spots.items low layers piece term.now }
+        ensures kept { IfOk result (λ _. Extends self.old.dag self.new.dag) }
+        ensures before { IfOk result (λ _. Keeps low self.old.spots.items self.new.spots.items) }
+        ensures long { IfOk result (λ _. length self.new.spots.items ≡ length self.old.spots.items) }
+        ensures piece { IfOk result (λ piece. IsPiece self.new.dag self.new.spots.items low (length self.new.spots.items) piece term.now) }
+    {
+        while let Some(layer) = layers.pop() {
+            piece = match layer {
+                Layer::Row { from, to, left } => self.cat(from, to, left, piece)?,
+                Layer::Choice { from, to, left } => self.alt(from, to, left, piece)?,
+                Layer::Loop { from } => self.star(alloc, from, piece)?,
+            };
+        }
+        Ok(piece)
+    }
+
+    fn fill_nothing(&mut self, alloc: Global) -> Result<Piece, OutOfMemory>
+        ensures kept { IfOk result (λ _. Extends self.old.dag self.new.dag) }
+        ensures same { IfOk result (λ _. self.new.spots.items ≡ self.old.spots.items) }
+        ensures piece { IfOk result (λ piece. IsPiece self.new.dag self.new.spots.items (length self.old.spots.items) (length self.new.spots.items) piece Term.Nothing) }
+    {
+        let node = self.dag.add(Node::Nothing)?;
+        Ok(Piece {
+            node,
+            nullable: false,
+            first: Items::new(alloc),
+        })
+    }
+
+    fn fill_empty(&mut self, alloc: Global) -> Result<Piece, OutOfMemory>
+        ensures kept { IfOk result (λ _. Extends self.old.dag self.new.dag) }
+        ensures same { IfOk result (λ _. self.new.spots.items ≡ self.old.spots.items) }
+        ensures piece { IfOk result (λ piece. IsPiece self.new.dag self.new.spots.items (length self.old.spots.items) (length self.new.spots.items) piece Term.Empty) }
+    {
+        let node = self.dag.add(Node::Empty)?;
+        Ok(Piece {
+            node,
+            nullable: true,
+            first: Items::new(alloc),
+        })
     }
 
     fn fill_one(&mut self, alloc: Global, set: ByteSet) -> Result<Piece, OutOfMemory>
@@ -183,15 +234,15 @@ impl Parts {
         to: usize,
         left: Piece,
         right: Piece,
-        s: &Term,
-        u: &Term,
     ) -> Result<Piece, OutOfMemory>
-        requires left { IsPiece self.old.dag self.old.spots.items from to left s.now }
-        requires right { IsPiece self.old.dag self.old.spots.items to (length self.old.spots.items) right u.now }
+        requires left { (s : Term) × IsPiece self.old.dag self.old.spots.items from to left s }
+        requires right { (u : Term) × IsPiece self.old.dag self.old.spots.items to (length self.old.spots.items) right u }
         ensures kept { IfOk result (λ _. Extends self.old.dag self.new.dag) }
         ensures before { IfOk result (λ _. Keeps from self.old.spots.items self.new.spots.items) }
         ensures long { IfOk result (λ _. length self.new.spots.items ≡ length self.old.spots.items) }
-        ensures piece { IfOk result (λ piece. IsPiece self.new.dag self.new.spots.items from (length self.old.spots.items) piece (cat s.now u.now)) }
+        ensures piece { IfOk result (λ piece. (s u : Term) → IsPiece self.old.dag self.old.spots.items from to left s
+            → IsPiece self.old.dag self.old.spots.items to (length self.old.spots.items) right u
+            → IsPiece self.new.dag self.new.spots.items from (length self.old.spots.items) piece (cat s u)) }
     {
         let Piece {
             node,
@@ -224,15 +275,15 @@ impl Parts {
         to: usize,
         left: Piece,
         right: Piece,
-        s: &Term,
-        u: &Term,
     ) -> Result<Piece, OutOfMemory>
-        requires left { IsPiece self.old.dag self.old.spots.items from to left s.now }
-        requires right { IsPiece self.old.dag self.old.spots.items to (length self.old.spots.items) right u.now }
+        requires left { (s : Term) × IsPiece self.old.dag self.old.spots.items from to left s }
+        requires right { (u : Term) × IsPiece self.old.dag self.old.spots.items to (length self.old.spots.items) right u }
         ensures kept { IfOk result (λ _. Extends self.old.dag self.new.dag) }
         ensures before { IfOk result (λ _. Keeps from self.old.spots.items self.new.spots.items) }
         ensures long { IfOk result (λ _. length self.new.spots.items ≡ length self.old.spots.items) }
-        ensures piece { IfOk result (λ piece. IsPiece self.new.dag self.new.spots.items from (length self.old.spots.items) piece (alt s.now u.now)) }
+        ensures piece { IfOk result (λ piece. (s u : Term) → IsPiece self.old.dag self.old.spots.items from to left s
+            → IsPiece self.old.dag self.old.spots.items to (length self.old.spots.items) right u
+            → IsPiece self.new.dag self.new.spots.items from (length self.old.spots.items) piece (alt s u)) }
     {
         let Piece {
             node,
@@ -248,18 +299,13 @@ impl Parts {
         })
     }
 
-    fn star(
-        &mut self,
-        alloc: Global,
-        from: usize,
-        body: Piece,
-        s: &Term,
-    ) -> Result<Piece, OutOfMemory>
-        requires body { IsPiece self.old.dag self.old.spots.items from (length self.old.spots.items) body s.now }
+    fn star(&mut self, alloc: Global, from: usize, body: Piece) -> Result<Piece, OutOfMemory>
+        requires body { (s : Term) × IsPiece self.old.dag self.old.spots.items from (length self.old.spots.items) body s }
         ensures kept { IfOk result (λ _. Extends self.old.dag self.new.dag) }
         ensures before { IfOk result (λ _. Keeps from self.old.spots.items self.new.spots.items) }
         ensures long { IfOk result (λ _. length self.new.spots.items ≡ length self.old.spots.items) }
-        ensures piece { IfOk result (λ piece. IsPiece self.new.dag self.new.spots.items from (length self.old.spots.items) piece (star s.now)) }
+        ensures piece { IfOk result (λ piece. (s : Term) → IsPiece self.old.dag self.old.spots.items from (length self.old.spots.items) body s
+            → IsPiece self.new.dag self.new.spots.items from (length self.old.spots.items) piece (star s)) }
     {
         let Piece {
             node,

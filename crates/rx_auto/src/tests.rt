@@ -112,3 +112,16 @@ fn stars_over_stars_stay_small(rt: HostRuntime) -> Result<(), Fail> {
     assert!(rt; !table.matches(b"abcd", &mut scratch));
     Ok(())
 }
+
+#[test]
+fn long_rows_need_no_deep_stack(rt: HostRuntime) -> Result<(), Fail> {
+    let table = Table::build(rt.alloc(), &starred(rt.alloc(), 0, 100_000)?)?;
+    assert_eq!(rt; table.room(), 1);
+    let mut row = Term::Empty;
+    for _ in 0..100_000 {
+        row = Term::cat(rt.alloc(), Term::one(LETTERS)?, row)?;
+    }
+    let table = Table::build(rt.alloc(), &row)?;
+    assert_eq!(rt; table.room(), 100_001);
+    Ok(())
+}
