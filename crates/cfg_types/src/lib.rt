@@ -9,6 +9,8 @@ mod laws;
 mod order;
 mod routes;
 mod rules;
+#[cfg(test)]
+mod tests;
 mod trees;
 
 pub use actions::{Act, Forward, HostChange, PathTo, Redirect, Share, Target};
