@@ -1,17 +1,16 @@
 -- What each choice says of hosts and of accepted routes.
-use Rattle.std.proofs.Common.{◌≡◌, ℕ, ◌+◌, Bool, true, false, if◌then◌else◌, ◌⊎◌, List, Option, Some, None, refl, sym, subst, slice_get}
-use Rattle.std.specs.Prelude.{find, MatchOption}
+use Rattle.std.proofs.Common.{◌≡◌, ℕ, ◌+◌, Bool, true, false, if◌then◌else◌, Option, Some, None, refl, sym, subst, slice_get}
+use Rattle.std.specs.Prelude.{MatchOption}
 use Rattle.text_base.specs.Asked.{Asked}
 use Rattle.cfg_types.proofs.HostProofs.{host_is_chosen}
 use Rattle.cfg_types.proofs.Ranges.{none-found, some-found}
 use Rattle.cfg_types.specs.Hosts.{host_for}
 use Rattle.cfg_types.specs.HostLaws.{IsHostFor, HasNoHost}
 use Rattle.cfg_types.specs.Trees.{Span}
-use Rattle.cfg_types.specs.Choices.{needs_tls, tried_routes, first_accepted, routes_before, chosen_or, among, at_host, at_number, choice_of, choice_for, holds_at}
-use Rattle.cfg_types.specs.ChoiceLaws.{IsSentTo, IsFirstAccepted, NoneAccepted, IsWithoutRoute, IsChoice, ChoiceLaw, RuleLaw}
+use Rattle.cfg_types.specs.Choices.{needs_tls, tried_routes, first_accepted, routes_before, chosen_or, among, at_host, at_number, choice_of, holds_at}
+use Rattle.cfg_types.specs.ChoiceLaws.{IsSentTo, IsWithoutRoute, IsChoice, ChoiceLaw, RuleLaw}
 use Rattle.cfg_types.specs.declared.configs.Config.{Config}
 use Rattle.cfg_types.specs.declared.configs.Host.{Host}
-use Rattle.cfg_types.specs.declared.answers.Choice.{Choice}
 use Rattle.cfg_types.specs.declared.answers.Choice.TheVariants as choice
 
 module _ (accepted : ℕ → Bool) (c : Config) (q : Asked) where

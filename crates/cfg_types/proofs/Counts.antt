@@ -1,9 +1,9 @@
 -- How many hosts a lawful configuration has at most.
-use Rattle.std.proofs.Common.{◌≡◌, ◌≢◌, ℕ, zero, suc, ◌+◌, ◌≤◌, List, [], ◌∷◌, ◌++◌, length, map, refl, arith, length-append}
+use Rattle.std.proofs.Common.{◌≢◌, ◌≤◌, List, [], ◌∷◌, length, map, refl, arith, length-append}
 use Rattle.std.specs.Prelude.{All}
 use Rattle.std.proofs.lemmas.List.Elements.{All-head, All-tail}
 use Rattle.cfg_types.specs.Order.{joined}
-use Rattle.cfg_types.specs.Lawful.{IsLawful, IsLawfulHost, domains}
+use Rattle.cfg_types.specs.Lawful.{IsLawful, IsLawfulHost}
 use Rattle.cfg_types.specs.declared.configs.Config.{Config}
 use Rattle.cfg_types.specs.declared.configs.Host.{Host}
 use Rattle.cfg_types.specs.declared.configs.Domain.{Domain}

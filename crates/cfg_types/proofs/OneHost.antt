@@ -1,5 +1,5 @@
 -- On a lawful configuration one host alone owns a matching domain that ranks first.
-use Rattle.std.proofs.Common.{◌≡◌, ◌≢◌, ℕ, zero, suc, ◌+◌, ◌-◌, ◌<◌, ◌≤◌, Bool, true, false, not, ◌&&◌, cond, ◌⊎◌, inl, inr, List, [], ◌∷◌, ◌++◌, length, take, drop, map, Option, Some, None, refl, sym, ◌∙◌, ap, subst, arith, slice_get, ltb, leb}
+use Rattle.std.proofs.Common.{◌≡◌, ◌≢◌, ℕ, zero, suc, ◌-◌, true, false, not, ◌&&◌, inl, inr, List, [], ◌∷◌, length, take, drop, map, Option, Some, None, refl, sym, ◌∙◌, ap, subst, arith, slice_get}
 use Rattle.std.specs.Prelude.{nat_lt, nat_le, MatchOption, AllPairs, bytes_eq}
 use Rattle.std.specs.List.{list_all}
 use Rattle.std.specs.Char.{to_ascii_lowercase}
@@ -9,7 +9,7 @@ use Rattle.rx_term.specs.Language.{Has}
 use Rattle.rx_term.proofs.Language.{Has_left, Has_right}
 use Rattle.text_base.specs.Asked.{Bytes}
 use Rattle.text_base.specs.Alphabets.{is_capital, is_authority_byte}
-use Rattle.text_base.specs.Hosts.{host_text, exact_matches, suffix_matches, prefix_matches}
+use Rattle.text_base.specs.Hosts.{host_text}
 use Rattle.text_base.specs.Requests.{some_of}
 use Rattle.cfg_types.proofs.Members.{All-at, Has-get, Has-from_contains, pairs-across, pairs-back}
 use Rattle.cfg_types.proofs.Kept.{same_name}
@@ -18,7 +18,7 @@ use Rattle.cfg_types.specs.Order.{joined}
 use Rattle.cfg_types.specs.Kinds.{is_domain_text}
 use Rattle.cfg_types.specs.Hosts.{domain_matches, ranks_before, host_for}
 use Rattle.cfg_types.specs.HostLaws.{IsOwned, IsHostFor, HasNoHost, OneHostLaw}
-use Rattle.cfg_types.specs.Lawful.{IsLawful, IsLawfulHost, IsLawfulDomain, domains}
+use Rattle.cfg_types.specs.Lawful.{IsLawful, IsLawfulHost, IsLawfulDomain}
 use Rattle.cfg_types.specs.declared.configs.Config.{Config}
 use Rattle.cfg_types.specs.declared.configs.Host.{Host}
 use Rattle.cfg_types.specs.declared.configs.Domain.{Domain}
@@ -29,10 +29,12 @@ use Rattle.cfg_types.specs.declared.configs.Domain.TheVariants as domain
 low_byte : (b : ℕ) → not (is_capital b) ≡ true → to_ascii_lowercase b ≡ b
 low_byte b h =
     elim (cases_lt b 65) [
-      inl l ↦ rw (lt-ltb b 65 l) refl
-    | inr l ↦ elim (cases_lt b 91) [
-        inl m ↦ absurd (both_ways (is_capital b) (not-true (is_capital b) h) (and_from (nat_le 65 b) (nat_le b 90) (le-leb 65 b l) (le-leb b 90 (omega arith))))
-      | inr m ↦ rw (le-ltb b 65 l, le-ltb b 91 m) refl ] ]
+      | inl l ↦ rw (lt-ltb b 65 l) refl
+      | inr l ↦ elim (cases_lt b 91) [
+        | inl m ↦ absurd (both_ways (is_capital b) (not-true (is_capital b) h) (and_from (nat_le 65 b) (nat_le b 90) (le-leb 65 b l) (le-leb b 90 (omega arith))))
+        | inr m ↦ rw (le-ltb b 65 l, le-ltb b 91 m) refl
+      ]
+    ]
 
 low_bytes : (w : Bytes) → list_all (λ b. is_authority_byte b && not (is_capital b)) w ≡ true → str_to_ascii_lowercase w ≡ w
 low_bytes [] h = refl
@@ -110,8 +112,8 @@ lawful_domain c h d l o =
 same_host : (c : Config) (a : Bytes) (g h : ℕ) → IsLawful c → IsHostFor c a g → IsHostFor c a h → g ≡ h
 same_host c a g h l w z =
     let s : w.domain ≡ z.domain =
-      same_domain (host_text c.ignore_port a) w.domain z.domain (lawful_domain c g w.domain l w.owned) (lawful_domain c h z.domain l z.owned) w.matches z.matches
-      (z.first g w.domain w.owned w.matches) (w.first h z.domain z.owned z.matches) in
+    same_domain (host_text c.ignore_port a) w.domain z.domain (lawful_domain c g w.domain l w.owned) (lawful_domain c h z.domain l z.owned) w.matches z.matches
+    (z.first g w.domain w.owned w.matches) (w.first h z.domain z.owned z.matches) in
     one_place c.hosts g h w.owned.host z.owned.host z.domain l.apart w.owned.is
     (subst (λ d. Has w.owned.host.domains d) s (Has-from_contains w.owned.host.domains w.domain w.owned.owns))
     z.owned.is (Has-from_contains z.owned.host.domains z.domain z.owned.owns)

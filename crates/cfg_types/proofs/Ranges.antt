@@ -1,8 +1,8 @@
 -- The first number of a row of numbers that passes a test.
-use Rattle.std.proofs.Common.{◌≡◌, ◌≢◌, ℕ, zero, suc, ◌+◌, ◌<◌, ◌≤◌, Bool, true, false, cond, ◌⊎◌, inl, inr, List, [], ◌∷◌, Option, Some, None, refl, sym, ap, subst, arith}
+use Rattle.std.proofs.Common.{◌≡◌, ℕ, zero, suc, ◌+◌, ◌<◌, ◌≤◌, Bool, true, false, inl, inr, Option, Some, None, refl, sym, ap, subst, arith}
 use Rattle.std.specs.Prelude.{find}
 use Rattle.std.specs.List.{range_with_len}
-use Rattle.std.proofs.lemmas.Bool.{both_ways, cases_Bool, cases_order}
+use Rattle.std.proofs.lemmas.Bool.{both_ways, cases_order}
 use Rattle.cfg_types.specs.ChoiceLaws.{IsFirstAccepted, NoneAccepted}
 
 module _ (p : ℕ → Bool) where
@@ -13,8 +13,8 @@ module _ (p : ℕ → Bool) where
   first-more : (a n r : ℕ) → p a ≡ false → IsFirstAccepted p (a + 1) n r → IsFirstAccepted p a (suc n) r
   first-more a n r e w = record { from = omega (arith, w.from); below = omega (arith, w.below); holds = w.holds; earlier = earlier }
     where
-    earlier : (k : ℕ) → a ≤ k → k < r → p k ≡ false
-    earlier k l b = elim (cases_order k a) [ inl s ↦ subst (λ v. p v ≡ false) (sym s) e | inr o ↦ elim o [ inl s ↦ absurd (omega arith) | inr s ↦ w.earlier k (omega arith) b ] ]
+      earlier : (k : ℕ) → a ≤ k → k < r → p k ≡ false
+      earlier k l b = elim (cases_order k a) [ inl s ↦ subst (λ v. p v ≡ false) (sym s) e | inr o ↦ elim o [ inl s ↦ absurd (omega arith) | inr s ↦ w.earlier k (omega arith) b ] ]
 
   none-step : (a n : ℕ) (v : Bool) → p a ≡ v → find p (range_with_len a (suc n)) ≡ None → (p a ≡ false) × (find p (range_with_len (a + 1) n) ≡ None)
   none-step a n true e q = let r = rw e at q in absurd (cc)

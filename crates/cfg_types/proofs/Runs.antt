@@ -1,12 +1,11 @@
 -- An element of runs put together, found run by run.
-use Rattle.std.proofs.Common.{◌≡◌, ℕ, zero, suc, ◌+◌, ◌<◌, List, [], ◌∷◌, ◌++◌, map, length, get_or, take, drop, replicate, Option, Some, None, slice_get, refl, ap, sym, ◌∙◌, arith, append_assoc, append-nil, length-append}
-use Rattle.std.proofs.lemmas.Grind.{common_steps}
+use Rattle.std.proofs.Common.{◌≡◌, ℕ, zero, suc, ◌+◌, ◌<◌, List, [], ◌∷◌, ◌++◌, map, length, get_or, take, drop, replicate, Some, slice_get, refl, ap, sym, ◌∙◌, arith, append_assoc, append-nil, length-append}
 use Rattle.std.proofs.lemmas.List.{take_more, map-append}
 use Rattle.cfg_types.specs.Order.{joined, owners, or_nothing, tree_routes, branch_routes, entry_routes, key_routes, then_routes}
 use Rattle.cfg_types.specs.declared.trees.Tree.{Tree}
 use Rattle.cfg_types.specs.declared.trees.Entry.{Entry}
 use Rattle.cfg_types.specs.declared.trees.KeyThen.{KeyThen}
-use Rattle.cfg_types.specs.declared.trees.Then.TheFolds.{the_lemmas, fold_out-Tree, fold_out-Entry}
+use Rattle.cfg_types.specs.declared.trees.Then.TheFolds.{the_lemmas}
 use Rattle.std.proofs.Common.{rules, option_map, Result, Ok, Err, MatchResult, Bor}
 
 pub slice_get-front : {A : Type 0} (xs ys : List A) (at : ℕ) (r : A) → slice_get xs at ≡ Some r → slice_get (xs ++ ys) at ≡ Some r

@@ -1,5 +1,5 @@
 -- The law of the choice of a route, in its own words.
-use Rattle.std.specs.Prelude.{◌≡◌, ℕ, ◌+◌, ◌<◌, ◌≤◌, Bool, true, false, ◌⊎◌, Option, Some, None, slice_get}
+use Rattle.std.specs.Prelude.{◌≡◌, ℕ, ◌+◌, ◌<◌, ◌≤◌, Bool, true, false, Option, Some, None, slice_get}
 use Rattle.text_base.specs.Asked.{Asked}
 use Rattle.cfg_types.specs.Hosts.{host_for}
 use Rattle.cfg_types.specs.Trees.{Span}

@@ -1,5 +1,5 @@
 -- The law of host choice, in its own words.
-use Rattle.std.specs.Prelude.{◌≡◌, ℕ, Bool, true, false, Option, Some, MatchOption, slice_get, Contains}
+use Rattle.std.specs.Prelude.{◌≡◌, ℕ, true, false, Some, MatchOption, slice_get, Contains}
 use Rattle.text_base.specs.Asked.{Bytes}
 use Rattle.text_base.specs.Hosts.{host_text}
 use Rattle.cfg_types.specs.Hosts.{domain_matches, ranks_before, host_for}

@@ -5,7 +5,6 @@ use Rattle.std.specs.List.{flat_map, enumerate_from}
 use Rattle.text_base.specs.Asked.{Bytes}
 use Rattle.cfg_types.specs.Order.{joined}
 use Rattle.cfg_types.specs.declared.configs.Config.{Config}
-use Rattle.cfg_types.specs.declared.configs.Host.{Host}
 use Rattle.cfg_types.specs.declared.configs.Body.{Body}
 use Rattle.cfg_types.specs.declared.configs.Body.TheVariants as body
 use Rattle.cfg_types.specs.declared.routes.Route.{Route}

@@ -8,31 +8,26 @@ ghost use Rattle.cfg_types.specs.HeaderEdits.{KeptLaw};
 /// matches.
 pub fn host_law()
     ensures { HostLaw }
-{
-}
+{}
 
 /// On a lawful configuration the chosen host is the only one with such a domain.
 pub fn one_host_law()
     ensures { OneHostLaw }
-{
-}
+{}
 
 /// A chosen route is accepted and no earlier one of the tried routes is; where no route is chosen, none of the tried
 /// routes is accepted. Accepted are the routes that a trial accepts, or those whose rule holds.
 pub fn choice_law()
     ensures trial { ChoiceLaw }
     ensures rules { RuleLaw }
-{
-}
+{}
 
 /// Of the shares of a weighted target exactly one is picked.
 pub fn pick_law()
     ensures { PickLaw }
-{
-}
+{}
 
 /// A header name that no edit of a level names keeps its values.
 pub fn edit_law()
     ensures { KeptLaw }
-{
-}
+{}

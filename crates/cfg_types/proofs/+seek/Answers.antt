@@ -1,6 +1,5 @@
-use Rattle.std.proofs.Common.{rules, ◌≡◌, ℕ, ◌+◌, ◌<◌, List, [], ◌∷◌, ◌++◌, length, map, slice_get, Option, Some, None, MatchResult}
-use Rattle.cfg_types.specs.Order.{tree_routes, joined, branch_routes, entry_routes, key_routes, then_routes}
-use Rattle.cfg_types.proofs.Runs.{slice_get-front, slice_get-past, found_at, past_at, MatchResult-past, tree_routes-is, entry_routes-is, key_routes-is}
+use Rattle.cfg_types.specs.Order.{branch_routes, entry_routes, key_routes, then_routes}
+use Rattle.cfg_types.proofs.Runs.{slice_get-front, found_at, past_at, MatchResult-past, tree_routes-is, entry_routes-is, key_routes-is}
 use Rattle.cfg_types.proofs.+seek.Goals as goal
 
 pub trees::Tree::seek-returns-in-Ok : goal.trees::Tree::seek-returns-in-Ok
