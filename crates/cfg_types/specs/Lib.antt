@@ -20,3 +20,4 @@ pub mod Places
 pub mod Lawful
 pub mod HostLaws
 pub mod ChoiceLaws
+pub mod TreeLaws

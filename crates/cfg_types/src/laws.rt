@@ -1,6 +1,7 @@
 // The laws of routing in its own words. Each function does nothing and promises its law.
 ghost use Rattle.cfg_types.specs.HostLaws.{HostLaw, OneHostLaw};
 ghost use Rattle.cfg_types.specs.ChoiceLaws.{ChoiceLaw, RuleLaw};
+ghost use Rattle.cfg_types.specs.TreeLaws.{TreeLaw};
 ghost use Rattle.cfg_types.specs.Shares.{PickLaw};
 ghost use Rattle.cfg_types.specs.HeaderEdits.{KeptLaw};
 
@@ -14,6 +15,12 @@ pub fn host_law()
 pub fn one_host_law()
     ensures { OneHostLaw }
 {}
+
+/// The routes of a tree's outcome are routes of the tree.
+pub fn tree_law()
+    ensures { TreeLaw }
+{
+}
 
 /// A chosen route is accepted and no earlier one of the tried routes is; where no route is chosen, none of the tried
 /// routes is accepted. Accepted are the routes that a trial accepts, or those whose rule holds.

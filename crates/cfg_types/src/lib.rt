@@ -17,7 +17,7 @@ pub use actions::{Act, Forward, HostChange, PathTo, Redirect, Share, Target};
 pub use answers::{Choice, Reply};
 pub use changes::{Addition, EditPair, Edits, How};
 pub use configs::{Body, Config, Domain, Host, Tls, VirtualCluster};
-pub use laws::{choice_law, edit_law, host_law, one_host_law, pick_law};
+pub use laws::{choice_law, edit_law, host_law, one_host_law, pick_law, tree_law};
 pub use routes::Route;
 pub use rules::{
     Fraction, HeaderForm, HeaderRule, PathRule, Pattern, QueryRule, RouteRule, TextForm, TextRule,

@@ -103,6 +103,7 @@ fn routes_are_numbered_over_lists_and_trees(rt: HostRuntime) -> Result<(), Fail>
 fn laws_are_called() {
     host_law();
     one_host_law();
+    tree_law();
     choice_law();
     pick_law();
     edit_law();
