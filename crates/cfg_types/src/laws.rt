@@ -1,5 +1,5 @@
 // The laws of routing in its own words. Each function does nothing and promises its law.
-ghost use Rattle.cfg_types.specs.HostLaws.{HostLaw, OneHostLaw};
+ghost use Rattle.cfg_types.specs.HostLaws.{HostLaw, OneHostLaw, WrittenLaw};
 ghost use Rattle.cfg_types.specs.ChoiceLaws.{ChoiceLaw, RuleLaw};
 ghost use Rattle.cfg_types.specs.TreeLaws.{TreeLaw};
 ghost use Rattle.cfg_types.specs.Shares.{PickLaw};
@@ -15,6 +15,12 @@ pub fn host_law()
 pub fn one_host_law()
     ensures { OneHostLaw }
 {}
+
+/// A lawful domain matches what its text matches as it is written, with its `*`.
+pub fn written_law()
+    ensures { WrittenLaw }
+{
+}
 
 /// The routes of a tree's outcome are routes of the tree.
 pub fn tree_law()
