@@ -1,6 +1,6 @@
 // The laws of routing in its own words. Each function does nothing and promises its law.
 ghost use Rattle.cfg_types.specs.HostLaws.{HostLaw, OneHostLaw, WrittenLaw};
-ghost use Rattle.cfg_types.specs.ChoiceLaws.{ChoiceLaw, RuleLaw};
+ghost use Rattle.cfg_types.specs.ChoiceLaws.{ChoiceLaw, OnlyChoiceLaw, RuleLaw};
 ghost use Rattle.cfg_types.specs.TreeLaws.{TreeLaw};
 ghost use Rattle.cfg_types.specs.Shares.{PickLaw};
 ghost use Rattle.cfg_types.specs.HeaderEdits.{KeptLaw};
@@ -29,9 +29,10 @@ pub fn tree_law()
 }
 
 /// A chosen route is accepted and no earlier one of the tried routes is; where no route is chosen, none of the tried
-/// routes is accepted. Accepted are the routes that a trial accepts, or those whose rule holds.
+/// routes is accepted. No other choice says so. Accepted are the routes that a trial accepts, or those whose rule holds.
 pub fn choice_law()
     ensures trial { ChoiceLaw }
+    ensures only { OnlyChoiceLaw }
     ensures rules { RuleLaw }
 {}
 
