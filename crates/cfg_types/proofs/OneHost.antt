@@ -14,7 +14,7 @@ use Rattle.text_base.specs.Requests.{some_of}
 use Rattle.cfg_types.proofs.Members.{All-at, Has-get, Has-from_contains, pairs-across, pairs-back}
 use Rattle.cfg_types.proofs.Kept.{same_name}
 use Rattle.cfg_types.proofs.HostProofs.{host_is_chosen}
-use Rattle.cfg_types.specs.Order.{joined}
+use Rattle.std.specs.Prelude.{flat_map}
 use Rattle.cfg_types.specs.Kinds.{is_domain_text}
 use Rattle.cfg_types.specs.Hosts.{domain_matches, ranks_before, host_for}
 use Rattle.cfg_types.specs.HostLaws.{IsOwned, IsHostFor, HasNoHost, OneHostLaw}
@@ -84,23 +84,23 @@ same_domain t d e l m p q a b = absurd (cc)
 abbrev of_host : Host → List Domain
 of_host h = h.domains
 
-of-joined : (hs : List Host) (h : ℕ) (x : Host) (d : Domain) → slice_get hs h ≡ Some x → Has x.domains d → Has (joined (map of_host hs)) d
-of-joined [] h x d e i = absurd (cc)
-of-joined (y ∷ hs) zero x d e i = let s : y ≡ x = cc in Has_left y.domains _ d (subst (λ z. Has z.domains d) (sym s) i)
-of-joined (y ∷ hs) (suc h) x d e i = Has_right y.domains _ d (of-joined hs h x d e i)
+of-all : (hs : List Host) (h : ℕ) (x : Host) (d : Domain) → slice_get hs h ≡ Some x → Has x.domains d → Has (flat_map of_host hs) d
+of-all [] h x d e i = absurd (cc)
+of-all (y ∷ hs) zero x d e i = let s : y ≡ x = cc in Has_left y.domains _ d (subst (λ z. Has z.domains d) (sym s) i)
+of-all (y ∷ hs) (suc h) x d e i = Has_right y.domains _ d (of-all hs h x d e i)
 
-one_place : (hs : List Host) (g h : ℕ) (x y : Host) (d : Domain) → AllPairs (λ d e. d ≢ e) (joined (map of_host hs)) →
+one_place : (hs : List Host) (g h : ℕ) (x y : Host) (d : Domain) → AllPairs (λ d e. d ≢ e) (flat_map of_host hs) →
     slice_get hs g ≡ Some x → Has x.domains d → slice_get hs h ≡ Some y → Has y.domains d → g ≡ h
 one_place [] g h x y d a e i f j = absurd (cc)
 one_place (z ∷ hs) zero zero x y d a e i f j = refl
 one_place (z ∷ hs) zero (suc h) x y d a e i f j =
     let s : z ≡ x = cc in
-    absurd (pairs-across (λ d e. d ≢ e) z.domains (joined (map of_host hs)) d d a (subst (λ v. Has v.domains d) (sym s) i) (of-joined hs h y d f j) refl)
+    absurd (pairs-across (λ d e. d ≢ e) z.domains (flat_map of_host hs) d d a (subst (λ v. Has v.domains d) (sym s) i) (of-all hs h y d f j) refl)
 one_place (z ∷ hs) (suc g) zero x y d a e i f j =
     let s : z ≡ y = cc in
-    absurd (pairs-across (λ d e. d ≢ e) z.domains (joined (map of_host hs)) d d a (subst (λ v. Has v.domains d) (sym s) j) (of-joined hs g x d e i) refl)
+    absurd (pairs-across (λ d e. d ≢ e) z.domains (flat_map of_host hs) d d a (subst (λ v. Has v.domains d) (sym s) j) (of-all hs g x d e i) refl)
 one_place (z ∷ hs) (suc g) (suc h) x y d a e i f j =
-    ap suc (one_place hs g h x y d (pairs-back (λ d e. d ≢ e) z.domains (joined (map of_host hs)) a) e i f j)
+    ap suc (one_place hs g h x y d (pairs-back (λ d e. d ≢ e) z.domains (flat_map of_host hs) a) e i f j)
 
 -- ---- the law
 

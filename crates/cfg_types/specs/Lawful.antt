@@ -1,6 +1,6 @@
 -- Lawful configurations: the limits are kept, each part is of the kind that its field has, no domain stands twice, the
 -- keys of a map stand in order, patterns have their terms, and places are those of the routes' order.
-use Rattle.std.specs.Prelude.{◌≡◌, ◌≢◌, ◌≤◌, ◌<◌, ℕ, ◌+◌, max, Bool, true, false, not, ◌&&◌, ◌==◌, nat_le, IsTrue, IfSome, List, [], ◌∷◌, ◌++◌, Option, Some, None, length, map, All, AllPairs, Contains}
+use Rattle.std.specs.Prelude.{◌≡◌, ◌≢◌, ◌≤◌, ◌<◌, ℕ, ◌+◌, max, Bool, true, false, not, ◌&&◌, ◌==◌, nat_le, IsTrue, IfSome, List, [], ◌∷◌, ◌++◌, Option, Some, None, length, map, All, AllPairs, Contains, flat_map}
 use Rattle.std.specs.List.{list_all, list_any, fold, AllZip}
 use Rattle.text_base.specs.Asked.{Bytes}
 use Rattle.rx_term.specs.Pattern.{IsPattern}
@@ -308,7 +308,7 @@ pub record IsLawfulHost (h : Host) : Type 0 where
 
 -- the domains of all hosts, in order
 abbrev pub domains : Config → List Domain
-domains c = joined (map (λ h. h.domains) c.hosts)
+domains c = flat_map (λ h. h.domains) c.hosts
 
 pub record IsLawful (c : Config) : Type 0 where
   pub hosts : All IsLawfulHost c.hosts
