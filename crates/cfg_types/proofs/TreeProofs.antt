@@ -1,22 +1,22 @@
 -- The routes of an outcome stand in their tree.
-use Rattle.std.proofs.Common.{◌≡◌, ℕ, ◌+◌, ◌≤◌, Bool, true, false, not, ◌&&◌, if◌then◌else◌, zero, suc, ◌⊎◌, List, [], ◌∷◌, ◌++◌, length, take, drop, map, Option, Some, None, refl, sym, ◌∙◌, ap, subst, arith, rules, length-append}
-use Rattle.std.specs.Prelude.{IfSome, sum_by, option_map, find, nat_lt}
+use Rattle.std.proofs.Common.{◌≡◌, ℕ, ◌+◌, ◌≤◌, Bool, true, false, not, ◌&&◌, if◌then◌else◌, zero, suc, List, [], ◌∷◌, ◌++◌, length, take, drop, map, Option, Some, None, refl, sym, ◌∙◌, ap, subst, arith, length-append}
+use Rattle.std.specs.Prelude.{IfSome, option_map, nat_lt}
 use Rattle.std.proofs.lemmas.List.Sums.{sum_by-cons}
 use Rattle.std.specs.List.{list_any}
 use Rattle.text_base.specs.Asked.{Bytes, Asked}
 use Rattle.std.proofs.Math.Nat.{suc-add}
-use Rattle.cfg_types.specs.TreeLaws.{Led, first_led, then_led, body_led, entry_led, key_led, led_or, tree_led, routes_led_to, CountsRoutes, TreeLaw}
+use Rattle.cfg_types.specs.TreeLaws.{Led, first_led, then_led, body_led, entry_led, key_led, led_or, tree_led, routes_led_to, TreeLaw}
 use Rattle.cfg_types.specs.declared.trees.Predicate.{Predicate}
-use Rattle.cfg_types.specs.Order.{Run, joined, or_nothing, then_routes, branch_routes, entry_routes, key_routes, tree_routes, then_step as then_run, body_step as body_run, entry_step as entry_run, key_step as key_run, tree_step as tree_run}
-use Rattle.cfg_types.specs.Trees.{Span, Place, Ways, Way, Keyed, behind, first_taken, ways, taken_or, size_or, then_step, body_step, entry_step, key_step, tree_step, tree_place, tree_outcome, equal_key, prefix_key, longest_key, input_of, predicate_holds}
+use Rattle.cfg_types.specs.Order.{Run, joined, then_routes, branch_routes, entry_routes, key_routes, tree_routes, then_step as then_run, body_step as body_run, entry_step as entry_run, key_step as key_run, tree_step as tree_run}
+use Rattle.cfg_types.specs.Trees.{Span, Place, Ways, Way, Keyed, behind, first_taken, ways, taken_or, then_step, body_step, entry_step, key_step, tree_step, tree_place, equal_key, prefix_key, longest_key, input_of, predicate_holds}
 use Rattle.cfg_types.specs.declared.trees.Then.{Then}
 use Rattle.cfg_types.specs.declared.trees.TreeBody.{TreeBody}
 use Rattle.cfg_types.specs.declared.trees.Entry.{Entry}
 use Rattle.cfg_types.specs.declared.trees.KeyThen.{KeyThen}
 use Rattle.cfg_types.specs.declared.trees.Tree.{Tree}
-use Rattle.cfg_types.specs.declared.trees.Then.TheOpen.{Then-F, TreeBody-F, Entry-F, KeyThen-F, Tree-F, Inner, Routes, Bare, List as Entries, Exact, Prefix}
+use Rattle.cfg_types.specs.declared.trees.Then.TheOpen.{Then-F, TreeBody-F, Tree-F, Inner, Routes, Bare, List as Entries, Exact, Prefix}
 use Rattle.cfg_types.specs.declared.trees.Then.TheViews.{roll-Then, roll-TreeBody, roll-Entry, roll-KeyThen, roll-Tree}
-use Rattle.cfg_types.specs.declared.trees.Then.TheFolds.{ind-Tree, fold-Then, fold-TreeBody, fold-Entry, fold-KeyThen, fold-Tree, fold-roll-Then, fold-roll-TreeBody, fold-roll-Entry, fold-roll-KeyThen, fold-roll-Tree, map-Then, map-TreeBody, map-Entry, map-KeyThen, map-Tree}
+use Rattle.cfg_types.specs.declared.trees.Then.TheFolds.{ind-Tree, fold-Then, fold-TreeBody, fold-Entry, fold-KeyThen, fold-roll-Then, fold-roll-TreeBody, fold-roll-Entry, fold-roll-KeyThen, fold-roll-Tree, map-Then, map-TreeBody, map-Tree}
 
 -- an outcome stands among n routes
 abbrev Within : ℕ → Option Span → Type 0
@@ -115,7 +115,8 @@ ways_agree (w ∷ ws) (r ∷ rs) (l ∷ ls) h =
     record {
       size = omega (arith, sum_by-cons (λ w. w.1.size) w ws, length-append r (joined rs));
       taken = taken-first w.0 w.1 r (joined rs) l.1 (first_taken ws) h.1 k.taken;
-      led = led-first w.0 l.0 w.1 r (joined rs) l.1 ls (first_taken ws) h.0 h.1 k.led }
+      led = led-first w.0 l.0 w.1 r (joined rs) l.1 ls (first_taken ws) h.0 h.1 k.led;
+    }
 ways_agree [] [] (l ∷ ls) h = absurd h
 ways_agree [] (r ∷ rs) ls h = absurd h
 ways_agree (w ∷ ws) [] ls h = absurd h
@@ -130,9 +131,10 @@ left-none (Some o) r l h k = (within-more (length r) (length (r ++ [])) o (omega
 
 left-some : (t : Option (Option Span)) (r rest : Run) (p : Place) (l : Option Led) (m : Led) → IfSome t (Within (length r)) → l ≡ option_map (of_run r) t → Agrees p rest m →
     Within (length (r ++ rest)) (taken_or t (length r) (Some p)) × (led_or l (Some m) ≡ of_run (r ++ rest) (taken_or t (length r) (Some p)))
-left-some None r rest p l m h k a =
-    (subst (λ n. Within n (behind (length r) p.outcome)) (sym (length-append r rest)) (within-behind (length rest) (length r) p.outcome a.outcome),
-     rw k (a.led ∙ run-behind r rest (length r) p.outcome refl))
+left-some None r rest p l m h k a = (
+  subst (λ n. Within n (behind (length r) p.outcome)) (sym (length-append r rest)) (within-behind (length rest) (length r) p.outcome a.outcome),
+  rw k (a.led ∙ run-behind r rest (length r) p.outcome refl),
+)
 left-some (Some o) r rest p l m h k a =
     (within-more (length r) (length (r ++ rest)) o (omega (arith, length-append r rest)) h, rw k (run-front r rest o h))
 
@@ -180,13 +182,15 @@ module _ (q : Asked) where
 
   then_roll : (x : Then-F Then TreeBody Entry KeyThen Tree) →
       Agrees (then_step (map-Then Then TreeBody Entry KeyThen Tree Place Ways Way Keyed Place then_place body_ways entry_way key_way (tree_place q) x))
-        (then_run (map-Then Then TreeBody Entry KeyThen Tree Run Run Run Run Run then_routes branch_routes entry_routes key_routes tree_routes x))
-        (then_led (map-Then Then TreeBody Entry KeyThen Tree Led (Option Led) (Bool × Led) (Bytes × Led) Led led_then led_body led_entry led_key (routes_led_to q) x)) →
+      (then_run (map-Then Then TreeBody Entry KeyThen Tree Run Run Run Run Run then_routes branch_routes entry_routes key_routes tree_routes x))
+      (then_led (map-Then Then TreeBody Entry KeyThen Tree Led (Option Led) (Bool × Led) (Bytes × Led) Led led_then led_body led_entry led_key (routes_led_to q) x)) →
       OfThen (roll-Then x)
   then_roll x h =
-      rw (fold-roll-Then Place Ways Way Keyed Place then_step (body_step q) (entry_step q) key_step tree_step x,
+      rw (
+        fold-roll-Then Place Ways Way Keyed Place then_step (body_step q) (entry_step q) key_step tree_step x,
         fold-roll-Then Run Run Run Run Run then_run body_run entry_run key_run tree_run x,
-        fold-roll-Then Led (Option Led) (Bool × Led) (Bytes × Led) Led then_led (body_led q) (entry_led q) key_led tree_led x) h
+        fold-roll-Then Led (Option Led) (Bool × Led) (Bytes × Led) Led then_led (body_led q) (entry_led q) key_led tree_led x,
+      ) h
 
   then_case : (y : Then-F ((t : Then) × OfThen t) ((b : TreeBody) × OfBody b) ((e : Entry) × OfEntry e) ((k : KeyThen) × OfKey k) ((t : Tree) × OfTree t)) →
       OfThen (roll-Then (map-Then ((t : Then) × OfThen t) ((b : TreeBody) × OfBody b) ((e : Entry) × OfEntry e) ((k : KeyThen) × OfKey k) ((t : Tree) × OfTree t) Then TreeBody Entry KeyThen Tree (λ e. e.0) (λ e. e.0) (λ e. e.0) (λ e. e.0) (λ e. e.0) y))
@@ -220,13 +224,15 @@ module _ (q : Asked) where
 
   body_roll : (x : TreeBody-F Then TreeBody Entry KeyThen Tree) →
       AgreesWays (body_step q (map-TreeBody Then TreeBody Entry KeyThen Tree Place Ways Way Keyed Place then_place body_ways entry_way key_way (tree_place q) x))
-        (body_run (map-TreeBody Then TreeBody Entry KeyThen Tree Run Run Run Run Run then_routes branch_routes entry_routes key_routes tree_routes x))
-        (body_led q (map-TreeBody Then TreeBody Entry KeyThen Tree Led (Option Led) (Bool × Led) (Bytes × Led) Led led_then led_body led_entry led_key (routes_led_to q) x)) →
+      (body_run (map-TreeBody Then TreeBody Entry KeyThen Tree Run Run Run Run Run then_routes branch_routes entry_routes key_routes tree_routes x))
+      (body_led q (map-TreeBody Then TreeBody Entry KeyThen Tree Led (Option Led) (Bool × Led) (Bytes × Led) Led led_then led_body led_entry led_key (routes_led_to q) x)) →
       OfBody (roll-TreeBody x)
   body_roll x h =
-      rw (fold-roll-TreeBody Place Ways Way Keyed Place then_step (body_step q) (entry_step q) key_step tree_step x,
+      rw (
+        fold-roll-TreeBody Place Ways Way Keyed Place then_step (body_step q) (entry_step q) key_step tree_step x,
         fold-roll-TreeBody Run Run Run Run Run then_run body_run entry_run key_run tree_run x,
-        fold-roll-TreeBody Led (Option Led) (Bool × Led) (Bytes × Led) Led then_led (body_led q) (entry_led q) key_led tree_led x) h
+        fold-roll-TreeBody Led (Option Led) (Bool × Led) (Bytes × Led) Led then_led (body_led q) (entry_led q) key_led tree_led x,
+      ) h
 
   body_case : (y : TreeBody-F ((t : Then) × OfThen t) ((b : TreeBody) × OfBody b) ((e : Entry) × OfEntry e) ((k : KeyThen) × OfKey k) ((t : Tree) × OfTree t)) →
       OfBody (roll-TreeBody (map-TreeBody ((t : Then) × OfThen t) ((b : TreeBody) × OfBody b) ((e : Entry) × OfEntry e) ((k : KeyThen) × OfKey k) ((t : Tree) × OfTree t) Then TreeBody Entry KeyThen Tree (λ e. e.0) (λ e. e.0) (λ e. e.0) (λ e. e.0) (λ e. e.0) y))
@@ -241,32 +247,38 @@ module _ (q : Asked) where
   entry_case : (test : Predicate) (t : Then) → OfThen t → OfEntry (roll-Entry (record { test = test; next = t }))
   entry_case test t h = record {
     test = rw (entry_ways test t, entry_leds test t) refl;
-    agrees = rw (entry_ways test t, entry_leds test t, fold-roll-Entry Run Run Run Run Run then_run body_run entry_run key_run tree_run (record { test = test; next = t })) h }
+    agrees = rw (entry_ways test t, entry_leds test t, fold-roll-Entry Run Run Run Run Run then_run body_run entry_run key_run tree_run (record { test = test; next = t })) h;
+  }
     where
-    entry_ways : (test : Predicate) (t : Then) → entry_way (roll-Entry (record { test = test; next = t })) ≡ (predicate_holds q test, then_place t)
-    entry_ways test t = fold-roll-Entry Place Ways Way Keyed Place then_step (body_step q) (entry_step q) key_step tree_step (record { test = test; next = t })
-    entry_leds : (test : Predicate) (t : Then) → led_entry (roll-Entry (record { test = test; next = t })) ≡ (predicate_holds q test, led_then t)
-    entry_leds test t = fold-roll-Entry Led (Option Led) (Bool × Led) (Bytes × Led) Led then_led (body_led q) (entry_led q) key_led tree_led (record { test = test; next = t })
+      entry_ways : (test : Predicate) (t : Then) → entry_way (roll-Entry (record { test = test; next = t })) ≡ (predicate_holds q test, then_place t)
+      entry_ways test t = fold-roll-Entry Place Ways Way Keyed Place then_step (body_step q) (entry_step q) key_step tree_step (record { test = test; next = t })
+
+      entry_leds : (test : Predicate) (t : Then) → led_entry (roll-Entry (record { test = test; next = t })) ≡ (predicate_holds q test, led_then t)
+      entry_leds test t = fold-roll-Entry Led (Option Led) (Bool × Led) (Bytes × Led) Led then_led (body_led q) (entry_led q) key_led tree_led (record { test = test; next = t })
 
   key_case : (key : Bytes) (t : Then) → OfThen t → OfKey (roll-KeyThen (record { key = key; next = t }))
   key_case key t h = record {
     key = rw (key_ways key t, key_leds key t) refl;
-    agrees = rw (key_ways key t, key_leds key t, fold-roll-KeyThen Run Run Run Run Run then_run body_run entry_run key_run tree_run (record { key = key; next = t })) h }
+    agrees = rw (key_ways key t, key_leds key t, fold-roll-KeyThen Run Run Run Run Run then_run body_run entry_run key_run tree_run (record { key = key; next = t })) h;
+  }
     where
-    key_ways : (key : Bytes) (t : Then) → key_way (roll-KeyThen (record { key = key; next = t })) ≡ (key, then_place t)
-    key_ways key t = fold-roll-KeyThen Place Ways Way Keyed Place then_step (body_step q) (entry_step q) key_step tree_step (record { key = key; next = t })
-    key_leds : (key : Bytes) (t : Then) → led_key (roll-KeyThen (record { key = key; next = t })) ≡ (key, led_then t)
-    key_leds key t = fold-roll-KeyThen Led (Option Led) (Bool × Led) (Bytes × Led) Led then_led (body_led q) (entry_led q) key_led tree_led (record { key = key; next = t })
+      key_ways : (key : Bytes) (t : Then) → key_way (roll-KeyThen (record { key = key; next = t })) ≡ (key, then_place t)
+      key_ways key t = fold-roll-KeyThen Place Ways Way Keyed Place then_step (body_step q) (entry_step q) key_step tree_step (record { key = key; next = t })
+
+      key_leds : (key : Bytes) (t : Then) → led_key (roll-KeyThen (record { key = key; next = t })) ≡ (key, led_then t)
+      key_leds key t = fold-roll-KeyThen Led (Option Led) (Bool × Led) (Bytes × Led) Led then_led (body_led q) (entry_led q) key_led tree_led (record { key = key; next = t })
 
   tree_roll : (x : Tree-F Then TreeBody Entry KeyThen Tree) →
       Agrees (tree_step (map-Tree Then TreeBody Entry KeyThen Tree Place Ways Way Keyed Place then_place body_ways entry_way key_way (tree_place q) x))
-        (tree_run (map-Tree Then TreeBody Entry KeyThen Tree Run Run Run Run Run then_routes branch_routes entry_routes key_routes tree_routes x))
-        (tree_led (map-Tree Then TreeBody Entry KeyThen Tree Led (Option Led) (Bool × Led) (Bytes × Led) Led led_then led_body led_entry led_key (routes_led_to q) x)) →
+      (tree_run (map-Tree Then TreeBody Entry KeyThen Tree Run Run Run Run Run then_routes branch_routes entry_routes key_routes tree_routes x))
+      (tree_led (map-Tree Then TreeBody Entry KeyThen Tree Led (Option Led) (Bool × Led) (Bytes × Led) Led led_then led_body led_entry led_key (routes_led_to q) x)) →
       OfTree (roll-Tree x)
   tree_roll x h =
-      rw (fold-roll-Tree Place Ways Way Keyed Place then_step (body_step q) (entry_step q) key_step tree_step x,
+      rw (
+        fold-roll-Tree Place Ways Way Keyed Place then_step (body_step q) (entry_step q) key_step tree_step x,
         fold-roll-Tree Run Run Run Run Run then_run body_run entry_run key_run tree_run x,
-        fold-roll-Tree Led (Option Led) (Bool × Led) (Bytes × Led) Led then_led (body_led q) (entry_led q) key_led tree_led x) h
+        fold-roll-Tree Led (Option Led) (Bool × Led) (Bytes × Led) Led then_led (body_led q) (entry_led q) key_led tree_led x,
+      ) h
 
   tree_case : (b : (b : TreeBody) × OfBody b) (o : Option ((t : Then) × OfThen t)) →
       OfTree (roll-Tree (map-Tree ((t : Then) × OfThen t) ((b : TreeBody) × OfBody b) ((e : Entry) × OfEntry e) ((k : KeyThen) × OfKey k) ((t : Tree) × OfTree t) Then TreeBody Entry KeyThen Tree (λ e. e.0) (λ e. e.0) (λ e. e.0) (λ e. e.0) (λ e. e.0) (record { body = b; otherwise = o })))
@@ -276,7 +288,8 @@ module _ (q : Asked) where
       tree_roll (record { body = b.0; otherwise = None }) (record {
         size = omega (arith, length-append (branch_routes b.0) []);
         outcome = subst (λ n. Within (length (branch_routes b.0 ++ [])) (taken_or (body_ways b.0).taken n None)) (sym e) p.0;
-        led = subst (λ n. led_or (led_body b.0) None ≡ of_run (branch_routes b.0 ++ []) (taken_or (body_ways b.0).taken n None)) (sym e) p.1 })
+        led = subst (λ n. led_or (led_body b.0) None ≡ of_run (branch_routes b.0 ++ []) (taken_or (body_ways b.0).taken n None)) (sym e) p.1;
+      })
   tree_case b (Some t) =
       let e = b.1.size in
       let f = t.1.size in
@@ -284,15 +297,16 @@ module _ (q : Asked) where
       tree_roll (record { body = b.0; otherwise = Some t.0 }) (record {
         size = omega (arith, length-append (branch_routes b.0) (then_routes t.0));
         outcome = subst (λ n. Within (length (branch_routes b.0 ++ then_routes t.0)) (taken_or (body_ways b.0).taken n (Some (then_place t.0)))) (sym e) p.0;
-        led = subst (λ n. led_or (led_body b.0) (Some (led_then t.0)) ≡ of_run (branch_routes b.0 ++ then_routes t.0) (taken_or (body_ways b.0).taken n (Some (then_place t.0)))) (sym e) p.1 })
+        led = subst (λ n. led_or (led_body b.0) (Some (led_then t.0)) ≡ of_run (branch_routes b.0 ++ then_routes t.0) (taken_or (body_ways b.0).taken n (Some (then_place t.0)))) (sym e) p.1;
+      })
 
   tree_agrees : (t : Tree) → OfTree t
   tree_agrees = ind-Tree OfThen OfBody OfEntry OfKey OfTree
-    (λ x y is. subst (λ z. OfThen (roll-Then z)) is (then_case y))
-    (λ x y is. subst (λ z. OfBody (roll-TreeBody z)) is (body_case y))
-    (λ x y is. subst (λ z. OfEntry (roll-Entry z)) is (entry_case y.test y.next.0 y.next.1))
-    (λ x y is. subst (λ z. OfKey (roll-KeyThen z)) is (key_case y.key y.next.0 y.next.1))
-    (λ x y is. subst (λ z. OfTree (roll-Tree z)) is (tree_case y.body y.otherwise))
+      (λ x y is. subst (λ z. OfThen (roll-Then z)) is (then_case y))
+      (λ x y is. subst (λ z. OfBody (roll-TreeBody z)) is (body_case y))
+      (λ x y is. subst (λ z. OfEntry (roll-Entry z)) is (entry_case y.test y.next.0 y.next.1))
+      (λ x y is. subst (λ z. OfKey (roll-KeyThen z)) is (key_case y.key y.next.0 y.next.1))
+      (λ x y is. subst (λ z. OfTree (roll-Tree z)) is (tree_case y.body y.otherwise))
 
 pub outcome_stands : TreeLaw
 outcome_stands q t = let a = tree_agrees q t in record { within = a.outcome; same = a.led }

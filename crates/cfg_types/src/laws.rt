@@ -19,14 +19,12 @@ pub fn one_host_law()
 /// A lawful domain matches what its text matches as it is written, with its `*`.
 pub fn written_law()
     ensures { WrittenLaw }
-{
-}
+{}
 
 /// The routes of a tree's outcome are routes of the tree.
 pub fn tree_law()
     ensures { TreeLaw }
-{
-}
+{}
 
 /// A chosen route is accepted and no earlier one of the tried routes is; where no route is chosen, none of the tried
 /// routes is accepted. No other choice says so. Accepted are the routes that a trial accepts, or those whose rule holds.
