@@ -1,31 +1,22 @@
 -- Cases of the kinds of texts, which compute, and a configuration that is lawful.
-use Rattle.std.proofs.Common.{◌≡◌, ◌≢◌, ℕ, ◌<◌, ◌≤◌, Bool, true, false, List, [], ◌∷◌, ◌++◌, Option, Some, None, pos, negsuc, refl, inl, inr, length, rules, arith, subst, sym, zero, suc}
+use Rattle.std.proofs.Common.{◌≡◌, ◌≢◌, ℕ, ◌≤◌, true, false, [], ◌∷◌, Some, None, pos, negsuc, refl, inl, length, rules, arith, subst, sym, zero, suc}
 use Rattle.std.specs.Prelude.{codes, All, AllPairs, Contains, IsTrue}
-use Rattle.std.specs.Fmt.{decimal, digits}
+use Rattle.std.specs.Fmt.{digits}
 use Rattle.std.proofs.lemmas.List.Elements.{All-nil, All-cons}
 use Rattle.std.specs.List.{AllZip}
 use Rattle.cfg_types.specs.Order.{routes, tree_routes}
 use Rattle.cfg_types.specs.Places.{route_places}
-use Rattle.text_base.specs.Asked.{Asked, Bytes, Head}
-use Rattle.rx_term.specs.declared.terms.Term.{Term, Nothing, Empty, One}
-use Rattle.rx_term.specs.Pattern.{IsPattern, choice, empty}
-use Rattle.cfg_types.specs.Kinds.{is_matcher_text, is_path_text, is_separated_text, is_target_text, is_value_text, is_edit_name, is_field_name, is_query_name, is_domain_text, byte_order, longer_first, are_ordered}
-use Rattle.cfg_types.specs.Lawful.{IsLawful, IsLawfulHost, IsLawfulRoute, IsLawfulRule, IsLawfulPair, IsLawfulHeader, IsLawfulQuery, IsLawfulDomain, IsLawfulPredicate, IsLawfulTree, IsLawfulCluster, IsLawfulPattern, IsLawfulShare, IsLawfulText, AreLawfulEdits, AreLawfulShares, IsLawfulAddition, tree_predicates, domains, predicate_depth, predicate_is_filled, tree_depth, tree_is_filled}
+use Rattle.text_base.specs.Asked.{Bytes}
+use Rattle.rx_term.specs.declared.terms.Term.{Empty}
+use Rattle.rx_term.specs.Pattern.{choice, empty}
+use Rattle.cfg_types.specs.Kinds.{is_path_text, is_separated_text, is_target_text, is_edit_name, is_field_name, is_query_name, is_domain_text, byte_order, longer_first, are_ordered}
+use Rattle.cfg_types.specs.Lawful.{IsLawful, IsLawfulHost, IsLawfulRoute, IsLawfulPair, IsLawfulHeader, IsLawfulQuery, IsLawfulDomain, IsLawfulPredicate, IsLawfulTree, IsLawfulCluster, IsLawfulPattern, IsLawfulShare, AreLawfulEdits, AreLawfulShares, IsLawfulAddition, tree_predicates, predicate_depth, predicate_is_filled, tree_depth, tree_is_filled}
 use Rattle.cfg_types.specs.declared.configs.Config.{Config}
 use Rattle.cfg_types.specs.declared.configs.Host.{Host}
-use Rattle.cfg_types.specs.declared.configs.Domain.{Domain}
-use Rattle.cfg_types.specs.declared.configs.Body.{Body}
-use Rattle.cfg_types.specs.declared.configs.VirtualCluster.{VirtualCluster}
 use Rattle.cfg_types.specs.declared.routes.Route.{Route}
-use Rattle.cfg_types.specs.declared.rules.PathRule.{PathRule}
-use Rattle.cfg_types.specs.declared.rules.HeaderRule.{HeaderRule}
-use Rattle.cfg_types.specs.declared.rules.QueryRule.{QueryRule}
-use Rattle.cfg_types.specs.declared.rules.TextRule.{TextRule}
 use Rattle.cfg_types.specs.declared.changes.EditPair.{EditPair}
-use Rattle.cfg_types.specs.declared.changes.Addition.{Addition}
 use Rattle.cfg_types.specs.declared.actions.Share.{Share}
 use Rattle.cfg_types.specs.declared.trees.Tree.{Tree}
-use Rattle.cfg_types.specs.declared.trees.Predicate.{Predicate}
 use Rattle.cfg_types.specs.declared.trees.Then.TheVariants as then_
 use Rattle.cfg_types.specs.declared.trees.TreeBody.TheVariants as ways
 use Rattle.cfg_types.specs.declared.trees.Predicate.TheVariants as predicate
@@ -52,21 +43,29 @@ share name weight = record { name = name; weight = weight; edits = no_edits }
 -- the prefix `/` with a header and a query rule, which forwards to two clusters
 abbrev weighted_route : Route
 weighted_route = record {
-  place = codes "/virtual_hosts/0/routes/0"; name = [];
+  place = codes "/virtual_hosts/0/routes/0";
+  name = [];
   rule = record {
-    path = path.Prefix (codes "/"); fold = true;
+    path = path.Prefix (codes "/");
+    fold = true;
     headers = record { name = codes "x-a"; form = header.Range (negsuc 9) (pos 0); invert = false; missing_empty = false } ∷ [];
     queries = record { name = codes "k"; form = None } ∷ [];
-    grpc = false; fraction = Some (record { key = codes "k"; below = 25; of = 100 }) };
+    grpc = false;
+    fraction = Some (record { key = codes "k"; below = 25; of = 100 });
+  };
   act = act.Forward (record { to = to.Weighted (share (codes "a") 30 ∷ share (codes "b") 0 ∷ []); prefix_rewrite = codes "/v2"; host = change.Keep });
-  edits = record { request = record { remove = codes "x-b" ∷ []; add = record { name = codes "x-c"; value = codes "50%%"; how = how.Append; keep_empty = false } ∷ [] }; response = record { remove = []; add = [] } } }
+  edits = record { request = record { remove = codes "x-b" ∷ []; add = record { name = codes "x-c"; value = codes "50%%"; how = how.Append; keep_empty = false } ∷ [] }; response = record { remove = []; add = [] } };
+}
 
 -- the empty pattern
 abbrev pattern_route : Route
 pattern_route = record {
-  place = codes "/virtual_hosts/1/matcher/on_no_match/action/typed_config"; name = codes "r";
+  place = codes "/virtual_hosts/1/matcher/on_no_match/action/typed_config";
+  name = codes "r";
   rule = record { path = path.Pattern (record { text = []; term = Empty }); fold = false; headers = []; queries = []; grpc = false; fraction = None };
-  act = act.Direct 200; edits = no_edits }
+  act = act.Direct 200;
+  edits = no_edits;
+}
 
 -- a tree without entries
 abbrev bare : Tree
@@ -74,9 +73,13 @@ bare = record { body = ways.Bare; otherwise = Some (then_.Routes (pattern_route 
 
 abbrev first_host : Host
 first_host = record {
-  name = codes "h"; domains = domain.Exact (codes "a.com") ∷ domain.Suffix (codes ".a.com") ∷ []; body = body.List (weighted_route ∷ []); tls = tls.All;
+  name = codes "h";
+  domains = domain.Exact (codes "a.com") ∷ domain.Suffix (codes ".a.com") ∷ [];
+  body = body.List (weighted_route ∷ []);
+  tls = tls.All;
   clusters = record { name = codes "get"; headers = record { name = codes ":method"; form = header.Present true; invert = false; missing_empty = false } ∷ [] } ∷ [];
-  edits = no_edits }
+  edits = no_edits;
+}
 
 abbrev second_host : Host
 second_host = record { name = codes "t"; domains = domain.Any ∷ []; body = body.Tree bare; tls = tls.No; clusters = []; edits = no_edits }
@@ -178,7 +181,6 @@ keys_longer_first = refl
 keys_shorter_first : are_ordered longer_first (codes "/a" ∷ codes "/a/b" ∷ []) ≡ false
 keys_shorter_first = refl
 
-
 -- how deep trees and predicates are nested, and what they may not lack
 not_is_one_deeper : predicate_depth (predicate.Not (predicate.Single (input.Header (codes "x-a")) (record { form = form.Exact []; fold = false }))) ≡ 2
 not_is_one_deeper = search (rules, tree_lemmas, predicate_lemmas)
@@ -221,19 +223,29 @@ share_lawful weight b name = record { name = λ e. cc; edits = no_edits_lawful }
 shares_lawful : AreLawfulShares (share (codes "a") 30 ∷ share (codes "b") 0 ∷ [])
 shares_lawful = record {
   each = All-cons IsLawfulShare (share (codes "a") 30) (share (codes "b") 0 ∷ []) (share_lawful 30 97 []) (one IsLawfulShare (share (codes "b") 0) (share_lawful 0 98 []));
-  some = omega arith; fit = omega arith }
+  some = omega arith;
+  fit = omega arith;
+}
 
 route_lawful : IsLawfulRoute weighted_route
 route_lawful = record {
   rule = record {
-    path = refl; headers = one IsLawfulHeader _ (record { name = refl; form = tt }); queries = one IsLawfulQuery _ (record { name = refl; form = tt });
-    fraction = record { key = refl; of = refl } };
+    path = refl;
+    headers = one IsLawfulHeader _ (record { name = refl; form = tt });
+    queries = one IsLawfulQuery _ (record { name = refl; form = tt });
+    fraction = record { key = refl; of = refl };
+  };
   act = record { to = shares_lawful; prefix_rewrite = refl; host = tt };
   edits = record {
     request = record {
-      few_removed = omega arith; few_added = omega arith; removed = one (λ n. IsTrue (is_edit_name n)) _ refl;
-      added = one IsLawfulAddition _ (record { name = refl; value = refl }) };
-    response = none_lawful } }
+      few_removed = omega arith;
+      few_added = omega arith;
+      removed = one (λ n. IsTrue (is_edit_name n)) _ refl;
+      added = one IsLawfulAddition _ (record { name = refl; value = refl });
+    };
+    response = none_lawful;
+  };
+}
 
 pattern_lawful : IsLawfulPattern (record { text = []; term = Empty })
 pattern_lawful = record { text = refl; short = omega arith; spelled = (1, (false, [], [], [], refl, inl refl, inl refl, choice empty), omega arith) }
@@ -241,7 +253,9 @@ pattern_lawful = record { text = refl; short = omega arith; spelled = (1, (false
 pattern_route_lawful : IsLawfulRoute pattern_route
 pattern_route_lawful = record {
   rule = record { path = pattern_lawful; headers = All-nil IsLawfulHeader; queries = All-nil IsLawfulQuery; fraction = tt };
-  act = (omega arith, omega arith); edits = no_edits_lawful }
+  act = (omega arith, omega arith);
+  edits = no_edits_lawful;
+}
 
 bare_routes : tree_routes bare ≡ pattern_route ∷ []
 bare_routes = search (rules, tree_lemmas, predicate_lemmas)
@@ -258,19 +272,28 @@ bare_lawful = record {
   filled = bare_filled;
   predicates = subst (All IsLawfulPredicate) (sym bare_predicates) (All-nil IsLawfulPredicate);
   routes = subst (All IsLawfulRoute) (sym bare_routes) (one IsLawfulRoute pattern_route pattern_route_lawful);
-  few_routes = subst (λ rs. length rs ≤ 1000) (sym bare_routes) (omega arith) }
+  few_routes = subst (λ rs. length rs ≤ 1000) (sym bare_routes) (omega arith);
+}
 
 first_host_lawful : IsLawfulHost first_host
 first_host_lawful = record {
-  name = λ e. cc; some_domain = λ e. cc;
+  name = λ e. cc;
+  some_domain = λ e. cc;
   domains = All-cons IsLawfulDomain (domain.Exact (codes "a.com")) (domain.Suffix (codes ".a.com") ∷ []) refl (one IsLawfulDomain (domain.Suffix (codes ".a.com")) refl);
   body = record { routes = one IsLawfulRoute weighted_route route_lawful; few_routes = omega arith };
   clusters = one IsLawfulCluster _ (record { name = λ e. cc; headers = one IsLawfulHeader _ (record { name = refl; form = tt }) });
-  edits = no_edits_lawful }
+  edits = no_edits_lawful;
+}
 
 second_host_lawful : IsLawfulHost second_host
 second_host_lawful = record {
-  name = λ e. cc; some_domain = λ e. cc; domains = one IsLawfulDomain domain.Any tt; body = bare_lawful; clusters = All-nil IsLawfulCluster; edits = no_edits_lawful }
+  name = λ e. cc;
+  some_domain = λ e. cc;
+  domains = one IsLawfulDomain domain.Any tt;
+  body = bare_lawful;
+  clusters = All-nil IsLawfulCluster;
+  edits = no_edits_lawful;
+}
 
 two_routes : routes two_hosts ≡ weighted_route ∷ pattern_route ∷ []
 two_routes = search (rules, tree_lemmas, predicate_lemmas)
@@ -300,6 +323,7 @@ two_hosts_lawful = record {
   few_domains = omega arith;
   apart = apart;
   places = subst (λ rs. AllZip (λ r ps. Contains ps r.place) rs (route_places two_hosts)) (sym two_routes)
-    (subst (AllZip (λ r ps. Contains ps r.place) (weighted_route ∷ pattern_route ∷ [])) (sym two_places)
-    ((0, omega arith, refl), ((0, omega arith, refl), tt)));
-  parameters = refl }
+      (subst (AllZip (λ r ps. Contains ps r.place) (weighted_route ∷ pattern_route ∷ [])) (sym two_places)
+      ((0, omega arith, refl), ((0, omega arith, refl), tt)));
+  parameters = refl;
+}

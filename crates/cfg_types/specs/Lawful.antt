@@ -1,6 +1,6 @@
 -- Lawful configurations: the limits are kept, each part is of the kind that its field has, no domain stands twice, the
 -- keys of a map stand in order, patterns have their terms, and places are those of the routes' order.
-use Rattle.std.specs.Prelude.{◌≡◌, ◌≢◌, ◌≤◌, ◌<◌, ℕ, zero, suc, ◌+◌, max, Bool, true, false, not, ◌&&◌, ◌==◌, nat_le, ◌⊎◌, IsTrue, IfSome, List, [], ◌∷◌, ◌++◌, Option, Some, None, length, map, All, AllPairs, Contains}
+use Rattle.std.specs.Prelude.{◌≡◌, ◌≢◌, ◌≤◌, ◌<◌, ℕ, ◌+◌, max, Bool, true, false, not, ◌&&◌, ◌==◌, nat_le, IsTrue, IfSome, List, [], ◌∷◌, ◌++◌, Option, Some, None, length, map, All, AllPairs, Contains, flat_map}
 use Rattle.std.specs.List.{list_all, list_any, fold, AllZip}
 use Rattle.text_base.specs.Asked.{Bytes}
 use Rattle.rx_term.specs.Pattern.{IsPattern}
@@ -48,7 +48,7 @@ use Rattle.cfg_types.specs.declared.trees.Predicate.{Predicate}
 use Rattle.cfg_types.specs.declared.trees.Predicate.TheOpen as layer
 use Rattle.cfg_types.specs.declared.trees.Predicate.TheFolds.{fold-Predicate}
 use Rattle.cfg_types.specs.declared.trees.Tree.{Tree}
-use Rattle.cfg_types.specs.declared.trees.Then.TheOpen.{Then-F, TreeBody-F, Entry-F, KeyThen-F, Tree-F, Inner, Routes, Bare, List as Entries, Exact, Prefix}
+use Rattle.cfg_types.specs.declared.trees.Then.TheOpen.{Then-F, TreeBody-F, Inner, Routes, Bare, List as Entries, Exact, Prefix}
 use Rattle.cfg_types.specs.declared.trees.Then.TheFolds.{fold-Tree}
 
 -- ---- rules
@@ -221,14 +221,15 @@ or_zero (Some n) = n
 abbrev pub tree_depth : Tree → ℕ
 tree_depth = fold-Tree ℕ ℕ ℕ ℕ ℕ then_depth body_depth (λ e. e.next) (λ k. k.next) (λ t. 1 + max t.body (or_zero t.otherwise))
   where
-  then_depth : Then-F ℕ ℕ ℕ ℕ ℕ → ℕ
-  then_depth (Inner tree) = tree
-  then_depth (Routes rs) = 0
-  body_depth : TreeBody-F ℕ ℕ ℕ ℕ ℕ → ℕ
-  body_depth Bare = 0
-  body_depth (Entries es) = greatest es
-  body_depth (Exact i ks) = greatest ks
-  body_depth (Prefix i ks) = greatest ks
+    then_depth : Then-F ℕ ℕ ℕ ℕ ℕ → ℕ
+    then_depth (Inner tree) = tree
+    then_depth (Routes rs) = 0
+
+    body_depth : TreeBody-F ℕ ℕ ℕ ℕ ℕ → ℕ
+    body_depth Bare = 0
+    body_depth (Entries es) = greatest es
+    body_depth (Exact i ks) = greatest ks
+    body_depth (Prefix i ks) = greatest ks
 
 abbrev pub or_true : Option Bool → Bool
 or_true None = true
@@ -243,14 +244,15 @@ map_is_filled order i ks =
 abbrev pub tree_is_filled : Tree → Bool
 tree_is_filled = fold-Tree Bool Bool Bool (Bytes × Bool) Bool then_filled body_filled (λ e. e.next) (λ k. (k.key, k.next)) (λ t. t.body && or_true t.otherwise)
   where
-  then_filled : Then-F Bool Bool Bool (Bytes × Bool) Bool → Bool
-  then_filled (Inner tree) = tree
-  then_filled (Routes rs) = true
-  body_filled : TreeBody-F Bool Bool Bool (Bytes × Bool) Bool → Bool
-  body_filled Bare = true
-  body_filled (Entries es) = not (is_empty es) && list_all (λ e. e) es
-  body_filled (Exact i ks) = map_is_filled byte_order i ks
-  body_filled (Prefix i ks) = map_is_filled longer_first i ks
+    then_filled : Then-F Bool Bool Bool (Bytes × Bool) Bool → Bool
+    then_filled (Inner tree) = tree
+    then_filled (Routes rs) = true
+
+    body_filled : TreeBody-F Bool Bool Bool (Bytes × Bool) Bool → Bool
+    body_filled Bare = true
+    body_filled (Entries es) = not (is_empty es) && list_all (λ e. e) es
+    body_filled (Exact i ks) = map_is_filled byte_order i ks
+    body_filled (Prefix i ks) = map_is_filled longer_first i ks
 
 abbrev pub Tests : Type 0
 Tests = List Predicate
@@ -259,14 +261,15 @@ Tests = List Predicate
 abbrev pub tree_predicates : Tree → List Predicate
 tree_predicates = fold-Tree Tests Tests Tests Tests Tests then_tests body_tests (λ e. e.test ∷ e.next) (λ k. k.next) (λ t. t.body ++ or_nothing t.otherwise)
   where
-  then_tests : Then-F Tests Tests Tests Tests Tests → Tests
-  then_tests (Inner tree) = tree
-  then_tests (Routes rs) = []
-  body_tests : TreeBody-F Tests Tests Tests Tests Tests → Tests
-  body_tests Bare = []
-  body_tests (Entries es) = joined es
-  body_tests (Exact i ks) = joined ks
-  body_tests (Prefix i ks) = joined ks
+    then_tests : Then-F Tests Tests Tests Tests Tests → Tests
+    then_tests (Inner tree) = tree
+    then_tests (Routes rs) = []
+
+    body_tests : TreeBody-F Tests Tests Tests Tests Tests → Tests
+    body_tests Bare = []
+    body_tests (Entries es) = joined es
+    body_tests (Exact i ks) = joined ks
+    body_tests (Prefix i ks) = joined ks
 
 pub record IsLawfulTree (t : Tree) : Type 0 where
   pub depth : tree_depth t ≤ 12
@@ -305,7 +308,7 @@ pub record IsLawfulHost (h : Host) : Type 0 where
 
 -- the domains of all hosts, in order
 abbrev pub domains : Config → List Domain
-domains c = joined (map (λ h. h.domains) c.hosts)
+domains c = flat_map (λ h. h.domains) c.hosts
 
 pub record IsLawful (c : Config) : Type 0 where
   pub hosts : All IsLawfulHost c.hosts

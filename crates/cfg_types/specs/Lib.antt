@@ -21,3 +21,4 @@ pub mod Lawful
 pub mod HostLaws
 pub mod ChoiceLaws
 pub mod Built
+pub mod TreeLaws

@@ -1,5 +1,5 @@
 -- The routes of a configuration in route order.
-use Rattle.std.specs.Prelude.{ℕ, ◌+◌, List, [], ◌∷◌, ◌++◌, length, replicate, Option, Some, None, map}
+use Rattle.std.specs.Prelude.{ℕ, ◌+◌, List, [], ◌∷◌, ◌++◌, length, replicate, Option, Some, None, flat_map}
 use Rattle.cfg_types.specs.declared.configs.Config.{Config}
 use Rattle.cfg_types.specs.declared.configs.Host.{Host}
 use Rattle.cfg_types.specs.declared.routes.Route.{Route}
@@ -18,8 +18,7 @@ Run = List Route
 
 -- several runs, one after another
 abbrev pub joined : {A : Type 0} → List (List A) → List A
-joined [] = []
-joined (r ∷ rs) = r ++ joined rs
+joined rs = flat_map (λ r. r) rs
 
 abbrev pub or_nothing : {A : Type 0} → Option (List A) → List A
 or_nothing None = []
@@ -69,7 +68,7 @@ abbrev pub host_routes : Host → List Route
 host_routes h = body_routes h.body
 
 abbrev pub routes_of_hosts : List Host → List Route
-routes_of_hosts hs = joined (map host_routes hs)
+routes_of_hosts hs = flat_map host_routes hs
 
 -- every route, in route order
 abbrev pub routes : Config → List Route

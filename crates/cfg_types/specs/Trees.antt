@@ -83,7 +83,7 @@ prefix_key None key = false
 prefix_key (Some t) key = begins t key
 
 -- the key is a prefix of the input, and no longer key of `all` is
-abbrev pub longest_key : Option Bytes → List Keyed → Bytes → Bool
+abbrev pub longest_key : {A : Type 0} → Option Bytes → List (Bytes × A) → Bytes → Bool
 longest_key t all key = prefix_key t key && not (list_any (λ k. prefix_key t k.0 && nat_lt (length key) (length k.0)) all)
 
 -- one layer of a tree, with where its children lead in their places

@@ -1,6 +1,6 @@
 // The order of routes: hosts in order, lists in order, trees by walk.
-ghost use Rattle.std.specs.Prelude.{◌≡◌, ◌+◌, ◌<◌, ◌≤◌, length, map, slice_get, MatchResult};
-ghost use Rattle.cfg_types.specs.Order.{routes, route_hosts, tree_routes, body_routes, joined, branch_routes, entry_routes, key_routes, then_routes};
+ghost use Rattle.std.specs.Prelude.{◌≡◌, ◌+◌, ◌<◌, ◌≤◌, length, flat_map, slice_get, MatchResult};
+ghost use Rattle.cfg_types.specs.Order.{routes, route_hosts, tree_routes, body_routes, branch_routes, entry_routes, key_routes, then_routes};
 
 use crate::{Body, Config, Entry, KeyThen, Route, Then, Tree, TreeBody};
 
@@ -113,7 +113,7 @@ impl TreeBody {
 
 #[cycle(seek)]
 fn seek_entries(entries: &[Entry], at: u32) -> Result<&Route, u32>
-    ensures { MatchResult result (λ r. slice_get (joined (map entry_routes entries.now)) at ≡ Some r.now) (λ left. at ≡ left + length (joined (map entry_routes entries.now))) }
+    ensures { MatchResult result (λ r. slice_get (flat_map entry_routes entries.now) at ≡ Some r.now) (λ left. at ≡ left + length (flat_map entry_routes entries.now)) }
 {
     let mut left = at;
     for entry in entries {
@@ -127,7 +127,7 @@ fn seek_entries(entries: &[Entry], at: u32) -> Result<&Route, u32>
 
 #[cycle(seek)]
 fn seek_keys(keys: &[KeyThen], at: u32) -> Result<&Route, u32>
-    ensures { MatchResult result (λ r. slice_get (joined (map key_routes keys.now)) at ≡ Some r.now) (λ left. at ≡ left + length (joined (map key_routes keys.now))) }
+    ensures { MatchResult result (λ r. slice_get (flat_map key_routes keys.now) at ≡ Some r.now) (λ left. at ≡ left + length (flat_map key_routes keys.now)) }
 {
     let mut left = at;
     for entry in keys {

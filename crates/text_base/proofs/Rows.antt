@@ -4,7 +4,7 @@ use Rattle.std.specs.Prelude.{codes}
 use Rattle.text_base.specs.Asked.{Asked}
 use Rattle.text_base.specs.Seen.{seen, field_named, path_of, query_part, matched_path, query_of}
 use Rattle.text_base.specs.Forms.{folded, begins, ends, occurs, signed_value, within}
-use Rattle.text_base.specs.Hosts.{host_text, exact_matches, suffix_matches, prefix_matches}
+use Rattle.text_base.specs.Hosts.{host_text, exact_matches, suffix_matches, prefix_matches, written_matches}
 use Rattle.text_base.specs.Heads.{heads}
 use Rattle.text_base.specs.Requests.{is_valid, is_header, first_bad_part}
 use Rattle.text_base.specs.declared.request.BadRequest.TheVariants as bad
@@ -84,6 +84,18 @@ exact_is_whole = refl
 
 exact_has_no_port : exact_matches (codes "a.com") (codes "[::1]") ≡ false
 exact_has_no_port = refl
+
+written_suffix : written_matches (codes "*.foo.com") (codes "a.foo.com") ≡ true
+written_suffix = refl
+
+written_prefix : written_matches (codes "foo.*") (codes "foo.com") ≡ true
+written_prefix = refl
+
+written_exact : written_matches (codes "a.com") (codes "b.com") ≡ false
+written_exact = refl
+
+written_star : written_matches (codes "*") [] ≡ true
+written_star = refl
 
 -- paths and queries of a target
 path_ends_at_the_first_mark : path_of (codes "/a?b?c") ≡ codes "/a"

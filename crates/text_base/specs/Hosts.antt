@@ -1,8 +1,9 @@
 -- The host text of an authority, and when the text of a domain matches it.
-use Rattle.std.specs.Prelude.{◌-◌, Bool, not, ◌&&◌, ◌==◌, nat_lt, if◌then◌else◌, length, take, drop}
+use Rattle.std.specs.Prelude.{◌-◌, Bool, true, not, ◌&&◌, ◌==◌, nat_lt, if◌then◌else◌, [], ◌∷◌, length, take, drop, bytes_eq}
 use Rattle.std.specs.List.{before_last, after_last}
 use Rattle.std.specs.Str.{str_eq_ignore_ascii_case}
 use Rattle.text_base.specs.Asked.{Bytes}
+use Rattle.text_base.specs.Forms.{begins, ends}
 use Rattle.text_base.specs.Seen.{has_byte}
 
 -- a port stands behind the last `:`, where no `]` follows that `:`
@@ -24,3 +25,11 @@ suffix_matches w t = nat_lt (length w) (length t) && str_eq_ignore_ascii_case (d
 -- a prefix wildcard, by its text: the front of the host text, with one byte or more behind
 abbrev pub prefix_matches : Bytes → Bytes → Bool
 prefix_matches w t = nat_lt (length w) (length t) && str_eq_ignore_ascii_case (take (length w) t) w
+
+-- a domain as it is written, with its `*`, matches the host text
+abbrev pub written_matches : Bytes → Bytes → Bool
+written_matches d t =
+    if bytes_eq d (42 ∷ []) then true
+    else if begins d (42 ∷ []) then suffix_matches (drop 1 d) t
+    else if ends d (42 ∷ []) then prefix_matches (take (length d - 1) d) t
+    else exact_matches d t

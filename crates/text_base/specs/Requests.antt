@@ -1,5 +1,5 @@
 -- Which parts make a valid request.
-use Rattle.std.specs.Prelude.{ℕ, Bool, false, not, ◌&&◌, ◌==◌, if◌then◌else◌, List, [], ◌∷◌, Option, Some, option_map, position, codes, bytes_eq, nat_eq}
+use Rattle.std.specs.Prelude.{ℕ, Bool, false, not, ◌&&◌, ◌==◌, if◌then◌else◌, List, [], ◌∷◌, Option, Some, option_map, position, codes, bytes_eq, nat_eq, ◌≡◌, ◌↔◌, true, None}
 use Rattle.std.specs.List.{list_all, list_any, starts_with, ends_with}
 use Rattle.text_base.specs.Asked.{Bytes, Head, Asked}
 use Rattle.text_base.specs.declared.request.BadRequest.{BadRequest}
@@ -51,3 +51,7 @@ first_bad_part q =
     else if not (is_method q.method) then Some bad.Method
     else if not (is_runtime q.runtime) then Some bad.Runtime
     else option_map bad.Header (position (λ h. not (is_header h)) q.headers)
+
+-- a request is valid exactly where it has no bad part
+abbrev pub ValidLaw : Type 0
+ValidLaw = (q : Asked) → (first_bad_part q ≡ None) ↔ (is_valid q ≡ true)
