@@ -1,3 +1,7 @@
 pub mod Lists
 pub mod Sizes
 pub mod Utf8
+pub mod Escape
+pub mod Named
+pub mod FieldNames
+pub mod Elements
