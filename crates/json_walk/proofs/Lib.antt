@@ -5,3 +5,4 @@ pub mod Escape
 pub mod Named
 pub mod FieldNames
 pub mod Elements
+pub mod Digits

@@ -1,5 +1,6 @@
 -- Values without members: what stands for a text, a truth, a name of a list, a list.
-use Rattle.std.specs.Prelude.{ℕ, suc, ◌+◌, List, [], ◌∷◌, ◌++◌, length, Bool, nat_le, if◌then◌else◌, Option, Some, None, Result, Ok, Err, position}
+use Rattle.std.specs.Prelude.{ℕ, suc, ◌+◌, List, [], ◌∷◌, ◌++◌, length, Bool, nat_le, if◌then◌else◌, Option, Some, None, Result, Ok, Err}
+use Rattle.std.specs.List.{position_from}
 use Rattle.std.specs.Str.{bytes_eq}
 use Rattle.serde_json.specs.Data.{Data, Items, no_items, item}
 use Rattle.serde_json.specs.Find.{as_str, as_bool, as_array}
@@ -18,7 +19,7 @@ truth p d = or_offence p WrongKind (as_bool d)
 unfoldable pub choice : List (List ℕ) → Reading ℕ
 choice names p d = do
   t ← text p d
-  or_offence p OutOfRange (position (bytes_eq t) names)
+  or_offence p OutOfRange (position_from (bytes_eq t) 0 names)
 
 abbrev pub items_len : Items → ℕ
 items_len no_items = 0

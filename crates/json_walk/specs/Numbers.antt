@@ -1,21 +1,30 @@
 -- Whole numbers, written as JSON numbers or as texts of digits.
-use Rattle.std.specs.Prelude.{ℕ, List, [], ◌∷◌, length, ◌==◌, ◌&&◌, nat_le, if◌then◌else◌, Option, Some, None, option_map, Ok, ℤ, pos, neg_ℤ, int_le}
-use Rattle.std.specs.Str.{all_ascii_digits}
+use Rattle.std.specs.Prelude.{ℕ, List, [], ◌∷◌, length, Bool, false, ◌==◌, ◌&&◌, nat_le, if◌then◌else◌, Option, Some, None, Ok, ℤ, pos, neg_ℤ, int_le}
+use Rattle.std.specs.List.{list_all}
 use Rattle.std.specs.Str.Parse.{digits_value}
+use Rattle.text_base.specs.Alphabets.{is_digit}
 use Rattle.serde_json.specs.Data.{Data, null, boolean, number, string, array, object}
 use Rattle.serde_json.specs.Find.{as_integer}
 use Rattle.json_walk.specs.declared.refusal.Kind.TheVariants.{WrongKind, OutOfRange}
 use Rattle.json_walk.specs.Outcome.{Outcome, offence, or_offence, ◌>>=◌}
 use Rattle.json_walk.specs.Fields.{Reading}
 
--- the number of 1 to 20 digits
-unfoldable pub digits_number : List ℕ → Option ℕ
-digits_number ds = if nat_le 1 (length ds) && nat_le (length ds) 20 && all_ascii_digits ds then Some (digits_value 10 ds) else None
+-- 1 to 20 digits
+abbrev pub are_digits : List ℕ → Bool
+are_digits ds = nat_le 1 (length ds) && nat_le (length ds) 20 && list_all is_digit ds
 
--- the number of an optional `-` and 1 to 20 digits
-unfoldable pub text_number : List ℕ → Option ℤ
-text_number [] = None
-text_number (b ∷ ds) = if b == 45 then option_map (λ n. neg_ℤ (pos n)) (digits_number ds) else option_map pos (digits_number (b ∷ ds))
+-- an optional `-`, and 1 to 20 digits
+abbrev pub is_number : List ℕ → Bool
+is_number [] = false
+is_number (b ∷ ds) = if b == 45 then are_digits ds else are_digits (b ∷ ds)
+
+-- the number that an optional `-` and digits write
+abbrev pub written : List ℕ → ℤ
+written [] = pos 0
+written (b ∷ ds) = if b == 45 then neg_ℤ (pos (digits_value 10 ds)) else pos (digits_value 10 (b ∷ ds))
+
+abbrev pub text_number : List ℕ → Option ℤ
+text_number s = if is_number s then Some (written s) else None
 
 -- the whole number that a value says: a number with a fraction, an exponent or more than 64 bits says none
 unfoldable pub number_said : Data → Option ℤ

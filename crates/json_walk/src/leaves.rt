@@ -1,5 +1,7 @@
 // Values without members of their own: texts, truths, names out of a list, and lists.
-ghost use Rattle.std.specs.Prelude.{◌≡◌, ℕ, List, Bool, map};
+ghost use Rattle.std.specs.Prelude.{◌≡◌, map};
+ghost use Rattle.std.specs.Str.{bytes_eq};
+ghost use Rattle.std.specs.List.{position_from};
 ghost use Rattle.serde_json.specs.View.{view, items_view};
 ghost use Rattle.json_walk.specs.Outcome.{Gives};
 ghost use Rattle.json_walk.specs.Leaves.{text, truth, choice, list, list_size, items, list_of as list_read};
@@ -34,6 +36,17 @@ pub fn truth_of(alloc: Global, value: &Value, place: &Text) -> Result<bool, Read
     }
 }
 
+fn number_of(text: &str, names: &[&str]) -> Option<usize>
+    ensures { result ≡ position_from (bytes_eq text.now) 0 (map (λ n. n.now) names.now) }
+{
+    for (i, name) in names.iter().enumerate() {
+        if text == *name {
+            return Some(i);
+        }
+    }
+    None
+}
+
 /// The number, counted from 0, of the text among the names: no text is `WrongKind`, and another text `OutOfRange`.
 #[tactic(auto, unfolding(crate::specs::Leaves::choice))]
 pub fn choice_of(
@@ -45,7 +58,7 @@ pub fn choice_of(
     ensures { Gives (λ n. n) result (choice (map (λ n. n.now) names.now) place.now (view value.now)) }
 {
     let text = text_of(alloc, value, place)?;
-    match names.iter().position(|name| text.as_str() == *name) {
+    match number_of(text.as_str(), names) {
         Some(number) => Ok(number),
         None => Err(refused_at(place.copy(alloc)?, Kind::OutOfRange)),
     }

@@ -1,39 +1,45 @@
 // Whole numbers, written as JSON numbers or as texts of digits.
-ghost use Rattle.std.specs.Prelude.{◌≡◌, ◌≤ℤ◌, pos, option_map, IfSome};
+ghost use Rattle.std.specs.Prelude.{◌≡◌};
+ghost use Rattle.std.specs.List.{list_all};
 ghost use Rattle.serde_json.specs.View.{view};
+ghost use Rattle.text_base.specs.Alphabets.{is_digit};
 ghost use Rattle.json_walk.specs.Outcome.{Gives};
-ghost use Rattle.json_walk.specs.Numbers.{digits_number as number_of_digits, text_number as number_of_text, number_said as said_by, whole};
+ghost use Rattle.json_walk.specs.Numbers.{are_digits as are_digits_of, is_number as is_number_of, text_number, number_said as said_by, whole};
 
 use crate::refusal::{Kind, ReadFail, refused_at};
 use serde_json::Value;
 use std::alloc::Global;
 use text_base::Text;
 
-#[tactic(auto, unfolding(crate::specs::Numbers::digits_number))]
-fn digits_number(text: &str) -> Option<i128>
-    ensures value { result ≡ option_map pos (number_of_digits text.now) }
-    ensures counted { IfSome result (λ n. pos 0 ≤ℤ n) }
+fn all_digits(text: &[u8]) -> bool
+    ensures { result ≡ list_all is_digit text.now }
 {
-    if text.len() < 1 || text.len() > 20 || !text.bytes().all(|byte| byte.is_ascii_digit()) {
-        return None;
-    }
-    match text.parse::<i128>() {
-        Ok(number) => Some(number),
-        Err(_) => None,
+    text.iter().all(|byte| byte.is_ascii_digit())
+}
+
+fn are_digits(text: &[u8]) -> bool
+    ensures { result ≡ are_digits_of text.now }
+{
+    1 <= text.len() && text.len() <= 20 && all_digits(text)
+}
+
+fn is_number(text: &[u8]) -> bool
+    ensures { result ≡ is_number_of text.now }
+{
+    match text {
+        [b'-', digits @ ..] => are_digits(digits),
+        digits => are_digits(digits),
     }
 }
 
-#[tactic(auto, unfolding(crate::specs::Numbers::text_number))]
-fn text_number(text: &str) -> Option<i128>
-    ensures { result ≡ number_of_text text.now }
+#[tactic(auto, using(crate::proofs::Digits::parsed_is))]
+fn parsed(text: &str) -> Option<i128>
+    ensures { result ≡ text_number text.now }
 {
-    match text.strip_prefix('-') {
-        Some(digits) => match digits_number(digits) {
-            Some(number) => Some(-number),
-            None => None,
-        },
-        None => digits_number(text),
+    if is_number(text.as_bytes()) {
+        return text.parse::<i128>().ok();
     }
+    None
 }
 
 #[tactic(auto, unfolding(crate::specs::Numbers::number_said))]
@@ -47,7 +53,7 @@ fn number_said(value: &Value) -> Option<i128>
         return Some(number as i128);
     }
     match value.as_str() {
-        Some(text) => text_number(text),
+        Some(text) => parsed(text),
         None => None,
     }
 }
