@@ -1,5 +1,5 @@
 -- Whole numbers, written as JSON numbers or as texts of digits.
-use Rattle.std.specs.Prelude.{ℕ, List, [], ◌∷◌, length, Bool, false, ◌==◌, ◌&&◌, nat_le, if◌then◌else◌, Option, Some, None, Ok, ℤ, pos, neg_ℤ, int_le}
+use Rattle.std.specs.Prelude.{ℕ, List, [], ◌∷◌, length, Bool, false, ◌==◌, ◌&&◌, nat_le, if◌then◌else◌, Option, Some, None, Ok, ℤ, pos, negsuc, neg_ℤ, int_le}
 use Rattle.std.specs.List.{list_all}
 use Rattle.std.specs.Str.Parse.{digits_value}
 use Rattle.text_base.specs.Alphabets.{is_digit}
@@ -40,3 +40,11 @@ unfoldable pub whole : ℤ → ℤ → Reading ℤ
 whole least most p d = do
   n ← or_offence p WrongKind (number_said d)
   if int_le least n && int_le n most then Ok n else offence p OutOfRange
+
+abbrev natural : ℤ → ℕ
+natural (pos n) = n
+natural (negsuc n) = 0
+
+-- a whole number from least to most, none of them below 0
+unfoldable pub count : ℕ → ℕ → Reading ℕ
+count least most p d = whole (pos least) (pos most) p d >>= λ n. Ok (natural n)

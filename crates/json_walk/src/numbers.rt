@@ -1,10 +1,10 @@
 // Whole numbers, written as JSON numbers or as texts of digits.
-ghost use Rattle.std.specs.Prelude.{◌≡◌};
+ghost use Rattle.std.specs.Prelude.{◌≡◌, ◌≤ℤ◌, ◌≤◌, IfOk};
 ghost use Rattle.std.specs.List.{list_all};
 ghost use Rattle.serde_json.specs.View.{view};
 ghost use Rattle.text_base.specs.Alphabets.{is_digit};
 ghost use Rattle.json_walk.specs.Outcome.{Gives};
-ghost use Rattle.json_walk.specs.Numbers.{are_digits as are_digits_of, is_number as is_number_of, text_number, number_said as said_by, whole};
+ghost use Rattle.json_walk.specs.Numbers.{are_digits as are_digits_of, is_number as is_number_of, text_number, number_said as said_by, whole, count};
 
 use crate::refusal::{Kind, ReadFail, refused_at};
 use serde_json::Value;
@@ -68,7 +68,8 @@ pub fn whole_of(
     least: i128,
     most: i128,
 ) -> Result<i128, ReadFail>
-    ensures { Gives (λ n. n) result (whole least most place.now (view value.now)) }
+    ensures read { Gives (λ n. n) result (whole least most place.now (view value.now)) }
+    ensures within { IfOk result (λ n. (least ≤ℤ n) × (n ≤ℤ most)) }
 {
     let Some(number) = number_said(value) else {
         return Err(refused_at(place.copy(alloc)?, Kind::WrongKind));
@@ -77,4 +78,20 @@ pub fn whole_of(
         return Err(refused_at(place.copy(alloc)?, Kind::OutOfRange));
     }
     Ok(number)
+}
+
+/// A whole number from `least` to `most`, as `whole_of` reads it.
+#[tactic(auto, unfolding(crate::specs::Numbers::count))]
+pub fn count_of(
+    alloc: Global,
+    value: &Value,
+    place: &Text,
+    least: u64,
+    most: u64,
+) -> Result<u64, ReadFail>
+    ensures read { Gives (λ n. n) result (count least most place.now (view value.now)) }
+    ensures within { IfOk result (λ n. n ≤ most) }
+{
+    let number = whole_of(alloc, value, place, least as i128, most as i128)?;
+    Ok(number as u64)
 }

@@ -1,5 +1,5 @@
 // Readers of values without members of their own, for the fields of a message.
-ghost use Rattle.std.specs.Prelude.{◌≡◌};
+ghost use Rattle.std.specs.Prelude.{◌≡◌, pos, negsuc};
 ghost use Rattle.json_walk.specs.Leaves.{text, truth, list_of as list_read};
 ghost use Rattle.json_walk.specs.Numbers.{whole};
 
@@ -38,20 +38,17 @@ impl Reader for Truth {
     }
 }
 
-/// A whole number from `least` to `most`.
-#[derive(Clone, Copy)]
-pub struct Whole {
-    pub least: i128,
-    pub most: i128,
-}
+/// A whole number of 64 bits with a sign.
+pub struct Int64;
 
-impl Reader for Whole {
-    type Out = i128;
+impl Reader for Int64 {
+    type Out = i64;
 
-    ghost reads = { λ w. whole w.least w.most };
+    ghost reads = { λ _. whole (negsuc 9223372036854775807) (pos 9223372036854775807) };
 
-    fn read(&self, alloc: Global, value: &Value, place: &Text) -> Result<i128, ReadFail> {
-        whole_of(alloc, value, place, self.least, self.most)
+    fn read(&self, alloc: Global, value: &Value, place: &Text) -> Result<i64, ReadFail> {
+        let number = whole_of(alloc, value, place, i64::MIN as i128, i64::MAX as i128)?;
+        Ok(number as i64)
     }
 }
 
