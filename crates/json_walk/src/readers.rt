@@ -13,6 +13,7 @@ use std::alloc::Global;
 use text_base::Text;
 
 /// Any text.
+#[derive(Drop)]
 pub struct AnyText;
 
 impl Reader for AnyText {
@@ -26,6 +27,7 @@ impl Reader for AnyText {
 }
 
 /// True or false.
+#[derive(Drop)]
 pub struct Truth;
 
 impl Reader for Truth {
@@ -39,6 +41,7 @@ impl Reader for Truth {
 }
 
 /// A whole number of 64 bits with a sign.
+#[derive(Drop)]
 pub struct Int64;
 
 impl Reader for Int64 {
