@@ -6,3 +6,4 @@ pub mod Named
 pub mod FieldNames
 pub mod Elements
 pub mod Digits
+mod Rows

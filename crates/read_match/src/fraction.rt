@@ -1,8 +1,8 @@
 // Runtime fractions.
-ghost use Rattle.std.specs.Prelude.{◌≡◌, ◌<◌, ◌^◌, [], unwrap_or, IfOk};
+ghost use Rattle.std.specs.Prelude.{◌≡◌, ◌<◌, ◌^◌, [], map, unwrap_or, IfOk};
 ghost use Rattle.json_walk.specs.Outcome.{Gives};
 ghost use Rattle.json_walk.specs.Numbers.{count};
-ghost use Rattle.read_match.specs.Fractions.{denominator, denominator_of as denominator_at, fractional_percent, runtime_fraction};
+ghost use Rattle.read_match.specs.Fractions.{denominators, denominator, denominator_of as denominator_at, fractional_percent, runtime_fraction};
 
 use crate::kinds::MatcherText;
 use cfg_types::Fraction;
@@ -25,6 +25,13 @@ impl Reader for Numerator {
     }
 }
 
+#[tactic(auto, unfolding(crate::specs::Fractions::denominators))]
+fn denominator_names() -> &'static [&'static str]
+    ensures { map (λ n. n.now) result.now ≡ denominators }
+{
+    &["HUNDRED", "TEN_THOUSAND", "MILLION"]
+}
+
 fn denominator_of(number: usize) -> u32
     ensures { result ≡ denominator_at number }
 {
@@ -44,10 +51,9 @@ impl Reader for Denominator {
 
     ghost reads = { λ _. denominator };
 
-    #[tactic(auto, unfolding(crate::specs::Fractions::denominator, crate::specs::Fractions::denominators))]
+    #[tactic(auto, unfolding(crate::specs::Fractions::denominator))]
     fn read(&self, alloc: Global, value: &Value, place: &Text) -> Result<u32, ReadFail> {
-        let names = ["HUNDRED", "TEN_THOUSAND", "MILLION"];
-        let number = choice_of(alloc, value, place, &names)?;
+        let number = choice_of(alloc, value, place, denominator_names())?;
         Ok(denominator_of(number))
     }
 }
