@@ -18,9 +18,15 @@ fn route_configuration() -> &'static [Spellings]
         ("request_headers_to_remove", "requestHeadersToRemove"),
         ("response_headers_to_add", "responseHeadersToAdd"),
         ("response_headers_to_remove", "responseHeadersToRemove"),
-        ("most_specific_header_mutations_wins", "mostSpecificHeaderMutationsWins"),
+        (
+            "most_specific_header_mutations_wins",
+            "mostSpecificHeaderMutationsWins",
+        ),
         ("ignore_port_in_host_matching", "ignorePortInHostMatching"),
-        ("ignore_path_parameters_in_path_matching", "ignorePathParametersInPathMatching"),
+        (
+            "ignore_path_parameters_in_path_matching",
+            "ignorePathParametersInPathMatching",
+        ),
     ]
 }
 
@@ -46,10 +52,7 @@ fn virtual_host() -> &'static [Spellings]
 fn virtual_cluster() -> &'static [Spellings]
     ensures { map both result.now ≡ spellings (fields messages.VirtualCluster) }
 {
-    &[
-        ("name", "name"),
-        ("headers", "headers"),
-    ]
+    &[("name", "name"), ("headers", "headers")]
 }
 
 #[tactic(auto, unfolding(crate::specs::Names::name, crate::specs::Names::route_match, crate::specs::Names::route, crate::specs::Names::redirect, crate::specs::Names::direct_response, crate::specs::Names::request_headers_to_add, crate::specs::Names::request_headers_to_remove, crate::specs::Names::response_headers_to_add, crate::specs::Names::response_headers_to_remove))]
@@ -108,9 +111,7 @@ fn route_match() -> &'static [Spellings]
 fn regex_matcher() -> &'static [Spellings]
     ensures { map both result.now ≡ spellings (fields messages.RegexMatcher) }
 {
-    &[
-        ("regex", "regex"),
-    ]
+    &[("regex", "regex")]
 }
 
 #[tactic(auto, unfolding(crate::specs::Names::default_value, crate::specs::Names::runtime_key))]
@@ -127,10 +128,7 @@ fn runtime_fractional_percent() -> &'static [Spellings]
 fn fractional_percent() -> &'static [Spellings]
     ensures { map both result.now ≡ spellings (fields messages.FractionalPercent) }
 {
-    &[
-        ("numerator", "numerator"),
-        ("denominator", "denominator"),
-    ]
+    &[("numerator", "numerator"), ("denominator", "denominator")]
 }
 
 #[tactic(auto, unfolding(crate::specs::Names::name, crate::specs::Names::string_match, crate::specs::Names::exact_match, crate::specs::Names::prefix_match, crate::specs::Names::suffix_match, crate::specs::Names::contains_match, crate::specs::Names::safe_regex_match, crate::specs::Names::range_match, crate::specs::Names::present_match, crate::specs::Names::invert_match, crate::specs::Names::treat_missing_header_as_empty))]
@@ -156,10 +154,7 @@ fn header_matcher() -> &'static [Spellings]
 fn int64_range() -> &'static [Spellings]
     ensures { map both result.now ≡ spellings (fields messages.Int64Range) }
 {
-    &[
-        ("start", "start"),
-        ("end", "end"),
-    ]
+    &[("start", "start"), ("end", "end")]
 }
 
 #[tactic(auto, unfolding(crate::specs::Names::name, crate::specs::Names::string_match, crate::specs::Names::present_match))]
@@ -205,10 +200,7 @@ fn route_action() -> &'static [Spellings]
 fn weighted_cluster() -> &'static [Spellings]
     ensures { map both result.now ≡ spellings (fields messages.WeightedCluster) }
 {
-    &[
-        ("clusters", "clusters"),
-        ("total_weight", "totalWeight"),
-    ]
+    &[("clusters", "clusters"), ("total_weight", "totalWeight")]
 }
 
 #[tactic(auto, unfolding(crate::specs::Names::name, crate::specs::Names::weight, crate::specs::Names::request_headers_to_add, crate::specs::Names::request_headers_to_remove, crate::specs::Names::response_headers_to_add, crate::specs::Names::response_headers_to_remove))]
@@ -245,9 +237,7 @@ fn redirect_action() -> &'static [Spellings]
 fn direct_response_action() -> &'static [Spellings]
     ensures { map both result.now ≡ spellings (fields messages.DirectResponseAction) }
 {
-    &[
-        ("status", "status"),
-    ]
+    &[("status", "status")]
 }
 
 #[tactic(auto, unfolding(crate::specs::Names::header, crate::specs::Names::append, crate::specs::Names::append_action, crate::specs::Names::keep_empty_value))]
@@ -266,10 +256,7 @@ fn header_value_option() -> &'static [Spellings]
 fn header_value() -> &'static [Spellings]
     ensures { map both result.now ≡ spellings (fields messages.HeaderValue) }
 {
-    &[
-        ("key", "key"),
-        ("value", "value"),
-    ]
+    &[("key", "key"), ("value", "value")]
 }
 
 #[tactic(auto, unfolding(crate::specs::Names::matcher_list, crate::specs::Names::matcher_tree, crate::specs::Names::on_no_match))]
@@ -287,19 +274,14 @@ fn matcher() -> &'static [Spellings]
 fn matcher_list() -> &'static [Spellings]
     ensures { map both result.now ≡ spellings (fields messages.MatcherList) }
 {
-    &[
-        ("matchers", "matchers"),
-    ]
+    &[("matchers", "matchers")]
 }
 
 #[tactic(auto, unfolding(crate::specs::Names::predicate, crate::specs::Names::on_match))]
 fn field_matcher() -> &'static [Spellings]
     ensures { map both result.now ≡ spellings (fields messages.FieldMatcher) }
 {
-    &[
-        ("predicate", "predicate"),
-        ("on_match", "onMatch"),
-    ]
+    &[("predicate", "predicate"), ("on_match", "onMatch")]
 }
 
 #[tactic(auto, unfolding(crate::specs::Names::single_predicate, crate::specs::Names::or_matcher, crate::specs::Names::and_matcher, crate::specs::Names::not_matcher))]
@@ -318,19 +300,14 @@ fn predicate() -> &'static [Spellings]
 fn single_predicate() -> &'static [Spellings]
     ensures { map both result.now ≡ spellings (fields messages.SinglePredicate) }
 {
-    &[
-        ("input", "input"),
-        ("value_match", "valueMatch"),
-    ]
+    &[("input", "input"), ("value_match", "valueMatch")]
 }
 
 #[tactic(auto, unfolding(crate::specs::Names::predicate))]
 fn predicate_list() -> &'static [Spellings]
     ensures { map both result.now ≡ spellings (fields messages.PredicateList) }
 {
-    &[
-        ("predicate", "predicate"),
-    ]
+    &[("predicate", "predicate")]
 }
 
 #[tactic(auto, unfolding(crate::specs::Names::input, crate::specs::Names::exact_match_map, crate::specs::Names::prefix_match_map))]
@@ -348,9 +325,7 @@ fn matcher_tree() -> &'static [Spellings]
 fn match_map() -> &'static [Spellings]
     ensures { map both result.now ≡ spellings (fields messages.MatchMap) }
 {
-    &[
-        ("map", "map"),
-    ]
+    &[("map", "map")]
 }
 
 #[tactic(auto, unfolding(crate::specs::Names::matcher, crate::specs::Names::action, crate::specs::Names::keep_matching))]
@@ -368,49 +343,35 @@ fn on_match() -> &'static [Spellings]
 fn extension() -> &'static [Spellings]
     ensures { map both result.now ≡ spellings (fields messages.Extension) }
 {
-    &[
-        ("name", "name"),
-        ("typed_config", "typedConfig"),
-    ]
+    &[("name", "name"), ("typed_config", "typedConfig")]
 }
 
 #[tactic(auto, unfolding(crate::specs::Names::type_url, crate::specs::Names::header_name))]
 fn header_input() -> &'static [Spellings]
     ensures { map both result.now ≡ spellings (fields messages.HeaderInput) }
 {
-    &[
-        ("@type", "@type"),
-        ("header_name", "headerName"),
-    ]
+    &[("@type", "@type"), ("header_name", "headerName")]
 }
 
 #[tactic(auto, unfolding(crate::specs::Names::type_url, crate::specs::Names::query_param))]
 fn query_input() -> &'static [Spellings]
     ensures { map both result.now ≡ spellings (fields messages.QueryInput) }
 {
-    &[
-        ("@type", "@type"),
-        ("query_param", "queryParam"),
-    ]
+    &[("@type", "@type"), ("query_param", "queryParam")]
 }
 
 #[tactic(auto, unfolding(crate::specs::Names::type_url, crate::specs::Names::routes))]
 fn route_list() -> &'static [Spellings]
     ensures { map both result.now ≡ spellings (fields messages.RouteList) }
 {
-    &[
-        ("@type", "@type"),
-        ("routes", "routes"),
-    ]
+    &[("@type", "@type"), ("routes", "routes")]
 }
 
 #[tactic(auto, unfolding(crate::specs::Names::tests))]
 fn test_file() -> &'static [Spellings]
     ensures { map both result.now ≡ spellings (fields messages.TestFile) }
 {
-    &[
-        ("tests", "tests"),
-    ]
+    &[("tests", "tests")]
 }
 
 #[tactic(auto, unfolding(crate::specs::Names::test_name, crate::specs::Names::input, crate::specs::Names::validate))]
@@ -445,10 +406,7 @@ fn test_input() -> &'static [Spellings]
 fn test_header() -> &'static [Spellings]
     ensures { map both result.now ≡ spellings (fields messages.TestHeader) }
 {
-    &[
-        ("key", "key"),
-        ("value", "value"),
-    ]
+    &[("key", "key"), ("value", "value")]
 }
 
 #[tactic(auto, unfolding(crate::specs::Names::cluster_name, crate::specs::Names::virtual_cluster_name, crate::specs::Names::virtual_host_name, crate::specs::Names::host_rewrite, crate::specs::Names::path_rewrite, crate::specs::Names::path_redirect, crate::specs::Names::request_header_matches, crate::specs::Names::response_header_matches))]

@@ -3,12 +3,16 @@
 
 mod carried;
 mod fields;
+mod laws;
 mod message;
 mod outside;
+#[cfg(test)]
+mod tests;
 mod unbuilt;
 
 pub use carried::carried_of;
 pub use fields::fields_of;
+pub use laws::{camel_is_met_first, spellings_differ};
 pub use message::{Message, Spellings};
 pub use outside::outside_of;
 pub use unbuilt::unbuilt_of;

@@ -15,7 +15,10 @@ fn route_configuration() -> &'static [Spellings]
         ("request_headers_to_remove", "requestHeadersToRemove"),
         ("response_headers_to_add", "responseHeadersToAdd"),
         ("response_headers_to_remove", "responseHeadersToRemove"),
-        ("most_specific_header_mutations_wins", "mostSpecificHeaderMutationsWins"),
+        (
+            "most_specific_header_mutations_wins",
+            "mostSpecificHeaderMutationsWins",
+        ),
     ]
 }
 
@@ -79,18 +82,14 @@ fn route_match() -> &'static [Spellings]
 fn header_matcher() -> &'static [Spellings]
     ensures { map both result.now ≡ spellings (unbuilt messages.HeaderMatcher) }
 {
-    &[
-        ("safe_regex_match", "safeRegexMatch"),
-    ]
+    &[("safe_regex_match", "safeRegexMatch")]
 }
 
 #[tactic(auto, unfolding(crate::specs::Names::safe_regex))]
 fn string_matcher() -> &'static [Spellings]
     ensures { map both result.now ≡ spellings (unbuilt messages.StringMatcher) }
 {
-    &[
-        ("safe_regex", "safeRegex"),
-    ]
+    &[("safe_regex", "safeRegex")]
 }
 
 #[tactic(auto, unfolding(crate::specs::Names::cluster_header, crate::specs::Names::weighted_clusters, crate::specs::Names::prefix_rewrite, crate::specs::Names::host_rewrite_literal, crate::specs::Names::host_rewrite_header))]

@@ -8,9 +8,9 @@ ghost use Rattle.json_walk.specs.Places.{under as place_under};
 ghost use Rattle.json_walk.specs.Members.{names_of};
 ghost use Rattle.json_walk.specs.Fields.{field as field_at, optional as optional_at, required as required_at, alone as alone_at, must as must_at};
 
-use crate::walk::Names;
 use crate::places::under;
 use crate::refusal::{Kind, ReadFail, refused_at};
+use crate::walk::Names;
 use json_tables::{Message, fields_of};
 use serde_json::Value;
 use std::alloc::{AllocError, Global};
@@ -28,7 +28,12 @@ pub trait Reader {
 }
 
 /// The field's value, where it is there and not null.
-pub fn field<'v>(value: &'v Value, names: &Names, message: Message, number: usize) -> Option<&'v Value>
+pub fn field<'v>(
+    value: &'v Value,
+    names: &Names,
+    message: Message,
+    number: usize,
+) -> Option<&'v Value>
     requires named { names.now.spelled.items ≡ names_of message (view value.now) }
     requires within { number < length (fields message) }
     ensures { option_map (λ v. view v.now) result ≡ field_at (get_or (fields message) number []) (view value.now) }
@@ -40,7 +45,12 @@ pub fn field<'v>(value: &'v Value, names: &Names, message: Message, number: usiz
 }
 
 /// The place of the message's field with this number.
-pub fn field_place(alloc: Global, place: &Text, message: Message, number: usize) -> Result<Text, AllocError>
+pub fn field_place(
+    alloc: Global,
+    place: &Text,
+    message: Message,
+    number: usize,
+) -> Result<Text, AllocError>
     requires { number < length (fields message) }
     ensures { IfOk result (λ t. t ≡ place_under place.now (get_or (fields message) number [])) }
 {

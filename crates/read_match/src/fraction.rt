@@ -6,7 +6,9 @@ ghost use Rattle.read_match.specs.Fractions.{denominators, denominator, denomina
 
 use crate::kinds::MatcherText;
 use cfg_types::Fraction;
-use json_walk::{Message, ReadFail, Reader, Text, choice_of, count_of, members, optional, required};
+use json_walk::{
+    Message, ReadFail, Reader, Text, choice_of, count_of, members, optional, required,
+};
 use serde_json::Value;
 use std::alloc::{AllocError, Global};
 

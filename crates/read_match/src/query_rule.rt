@@ -6,7 +6,10 @@ ghost use Rattle.read_match.specs.Queries.{asks_presence as asks_presence_of, qu
 use crate::kinds::QueryName;
 use crate::text_rule::StringMatcher;
 use cfg_types::QueryRule;
-use json_walk::{Kind, Message, ReadFail, Reader, Text, Truth, alone, field_place, members, optional, refused_at, required};
+use json_walk::{
+    Kind, Message, ReadFail, Reader, Text, Truth, alone, field_place, members, optional,
+    refused_at, required,
+};
 use serde_json::Value;
 use std::alloc::Global;
 
