@@ -1,13 +1,28 @@
-//! From bytes to JSON, objects with exact members, and refusals with their places.
+//! From bytes to JSON; from JSON to the values of messages, or the first offence with its place.
 #![tactic(auto)]
 
 mod alphabet;
+mod fields;
 mod form;
+mod leaves;
+mod numbers;
+mod places;
+mod readers;
 mod refusal;
+#[cfg(test)]
+mod tests;
 mod value;
+mod walk;
 
 pub use alphabet::is_authority;
+pub use fields::{Reader, alone, field, field_place, must, optional, required};
 pub use form::{one, some_text, three, two};
-pub use refusal::{Kind, ReadFail, Refusal, refused};
+pub use json_tables::Message;
+pub use leaves::{choice_of, items_of, list_of, read_list, text_of, truth_of};
+pub use numbers::{count_of, whole_of};
+pub use places::{at_index, under};
+pub use readers::{AnyText, Int64, ListOf, Truth};
+pub use refusal::{Kind, ReadFail, Refusal, refused, refused_at};
 pub use text_base::Text;
 pub use value::read_value;
+pub use walk::{Names, members, object_of};

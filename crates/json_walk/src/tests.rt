@@ -1,0 +1,233 @@
+// Values that are read, and offences with their places.
+use crate::{
+    AnyText, Int64, Kind, ListOf, Message, ReadFail, Reader, Refusal, Text, Truth, alone, at_index,
+    choice_of, count_of, field, field_place, items_of, list_of, members, must, object_of, optional,
+    read_list, read_value, refused_at, required, text_of, truth_of, under, whole_of,
+};
+use std::alloc::Global;
+use std::test::Fail;
+
+/// The offence of what was read, if it has one.
+fn offence_of<T: Drop>(read: Result<T, ReadFail>) -> Result<Option<Refusal>, ReadFail> {
+    match read {
+        Ok(_) => Ok(None),
+        Err(ReadFail::Refused(refusal)) => Ok(Some(refusal)),
+        Err(ReadFail::OutOfMemory) => Err(ReadFail::OutOfMemory),
+    }
+}
+
+/// The offence of the members of an object at `/x`.
+fn offence_in(alloc: Global, text: &str, message: Message) -> Result<Option<Refusal>, ReadFail> {
+    let value = read_value(alloc, text.as_bytes())?;
+    let place = Text::of(alloc, "/x")?;
+    offence_of(members(alloc, &value, &place, message))
+}
+
+/// The offence of the whole number at `/n`, which may be from -10 to 10.
+fn offence_of_number(alloc: Global, text: &str) -> Result<Option<Refusal>, ReadFail> {
+    let value = read_value(alloc, text.as_bytes())?;
+    let place = Text::of(alloc, "/n")?;
+    offence_of(whole_of(alloc, &value, &place, -10, 10))
+}
+
+#[test]
+fn members_have_offences(rt: HostRuntime) -> Result<(), Fail> {
+    let rows = [
+        ("[]", Message::Matcher, "/x", Kind::WrongKind),
+        (
+            r#"{"a/b~":1}"#,
+            Message::VirtualHost,
+            "/x/a~1b~0",
+            Kind::UnknownField,
+        ),
+        (
+            r#"{"zz":1,"Zz":1}"#,
+            Message::VirtualHost,
+            "/x/Zz",
+            Kind::UnknownField,
+        ),
+        (
+            r#"{"virtual_hosts":[],"virtualHosts":[]}"#,
+            Message::RouteConfiguration,
+            "/x/virtual_hosts",
+            Kind::Conflict,
+        ),
+        (
+            r#"{"retryPolicy":null,"retry_policy":null}"#,
+            Message::RouteAction,
+            "/x/retry_policy",
+            Kind::Conflict,
+        ),
+        (
+            r#"{"regexRewrite":{}}"#,
+            Message::RedirectAction,
+            "/x/regex_rewrite",
+            Kind::NotInProfile,
+        ),
+        (
+            r#"{"headers":[]}"#,
+            Message::RouteMatch,
+            "/x/headers",
+            Kind::NotInProfile,
+        ),
+        (
+            r#"{"requireTls":"NONE"}"#,
+            Message::VirtualHost,
+            "/x/require_tls",
+            Kind::NotInProfile,
+        ),
+    ];
+    for (text, message, place, kind) in rows {
+        let refusal = offence_in(rt.alloc(), text, message)?.ok_or("read")?;
+        assert_eq!(rt; refusal.place.as_str(), place, "{text}");
+        assert_eq!(rt; refusal.kind, kind, "{text}");
+    }
+    let read = [
+        (r#"{"timeout":"1s","cluster":"a"}"#, Message::RouteAction),
+        (r#"{"headers":null,"prefix":"/"}"#, Message::RouteMatch),
+        (r#"{"rawValue":null}"#, Message::HeaderValue),
+        ("{}", Message::Grpc),
+    ];
+    for (text, message) in read {
+        let offence = offence_in(rt.alloc(), text, message)?;
+        assert!(rt; offence.is_none(), "{text}");
+    }
+    Ok(())
+}
+
+#[test]
+fn numbers_are_read_from_digits_too(rt: HostRuntime) -> Result<(), Fail> {
+    let alloc = rt.alloc();
+    let place = Text::of(alloc, "/n")?;
+    for (text, number) in [
+        ("7", 7),
+        ("-7", -7),
+        ("\"-10\"", -10),
+        ("\"-0\"", 0),
+        ("\"00000000000000000010\"", 10),
+    ] {
+        let value = read_value(alloc, text.as_bytes())?;
+        let read = whole_of(alloc, &value, &place, -10, 10)?;
+        assert_eq!(rt; read, number, "{text}");
+    }
+    let rows = [
+        ("1.0", Kind::WrongKind),
+        ("1e1", Kind::WrongKind),
+        ("-0", Kind::WrongKind),
+        ("18446744073709551616", Kind::WrongKind),
+        ("18446744073709551615", Kind::OutOfRange),
+        ("\"18446744073709551616\"", Kind::OutOfRange),
+        ("\"+5\"", Kind::WrongKind),
+        ("\"-\"", Kind::WrongKind),
+        ("\"\"", Kind::WrongKind),
+        ("\"000000000000000000001\"", Kind::WrongKind),
+        ("11", Kind::OutOfRange),
+        ("\"-11\"", Kind::OutOfRange),
+        ("true", Kind::WrongKind),
+    ];
+    for (text, kind) in rows {
+        let refusal = offence_of_number(alloc, text)?.ok_or("read")?;
+        assert_eq!(rt; refusal.place.as_str(), "/n", "{text}");
+        assert_eq!(rt; refusal.kind, kind, "{text}");
+    }
+    let most = read_value(alloc, b"\"18446744073709551615\"".as_slice())?;
+    assert_eq!(rt; count_of(alloc, &most, &place, 0, u64::MAX)?, u64::MAX);
+    let least = read_value(alloc, b"-9223372036854775808".as_slice())?;
+    assert_eq!(rt; Int64.read(alloc, &least, &place)?, i64::MIN);
+    Ok(())
+}
+
+#[test]
+fn fields_are_read(rt: HostRuntime) -> Result<(), Fail> {
+    const M: Message = Message::StringMatcher;
+    let alloc = rt.alloc();
+    let place = Text::of(alloc, "/x")?;
+    let value = read_value(
+        alloc,
+        r#"{"exact":"a","ignoreCase":true,"suffix":null}"#.as_bytes(),
+    )?;
+    object_of(alloc, &value, &place)?;
+    let names = members(alloc, &value, &place, M)?;
+    assert!(rt; field(&value, &names, M, 5).is_some());
+    assert!(rt; field(&value, &names, M, 2).is_none());
+    assert_eq!(rt;
+        field_place(alloc, &place, M, 5)?.as_str(),
+        "/x/ignore_case"
+    );
+    let exact = required(alloc, &value, &place, &names, M, 0, &AnyText)?;
+    assert_eq!(rt; exact.as_str(), "a");
+    assert_eq!(rt;
+        optional(alloc, &value, &place, &names, M, 5, &Truth)?,
+        Some(true)
+    );
+    alone(alloc, &value, &place, &names, M, 0, 5)?;
+    assert_eq!(rt; must(alloc, &place, Some(1u8))?, 1);
+    let missing = offence_of(required(alloc, &value, &place, &names, M, 1, &AnyText))?.ok_or(
+        "read",
+    )?;
+    assert_eq!(rt; missing.place.as_str(), "/x/prefix");
+    assert_eq!(rt; missing.kind, Kind::Missing);
+    let wrong = offence_of(optional(alloc, &value, &place, &names, M, 5, &AnyText))?.ok_or("read")?;
+    assert_eq!(rt; wrong.place.as_str(), "/x/ignore_case");
+    assert_eq!(rt; wrong.kind, Kind::WrongKind);
+    Ok(())
+}
+
+#[test]
+fn second_of_a_group_is_a_conflict(rt: HostRuntime) -> Result<(), Fail> {
+    const M: Message = Message::StringMatcher;
+    let alloc = rt.alloc();
+    let place = Text::of(alloc, "/x")?;
+    let value = read_value(alloc, r#"{"suffix":1,"exact":2,"contains":3}"#.as_bytes())?;
+    let names = members(alloc, &value, &place, M)?;
+    let refusal = offence_of(alone(alloc, &value, &place, &names, M, 0, 5))?.ok_or("read")?;
+    assert_eq!(rt; refusal.place.as_str(), "/x/suffix");
+    assert_eq!(rt; refusal.kind, Kind::Conflict);
+    let none: Option<u8> = None;
+    let refusal = offence_of(must(alloc, &place, none))?.ok_or("read")?;
+    assert_eq!(rt; refusal.place.as_str(), "/x");
+    assert_eq!(rt; refusal.kind, Kind::Missing);
+    Ok(())
+}
+
+#[test]
+fn lists_are_read_in_order(rt: HostRuntime) -> Result<(), Fail> {
+    let alloc = rt.alloc();
+    let place = Text::of(alloc, "/l")?;
+    let value = read_value(alloc, r#"["a","b"]"#.as_bytes())?;
+    assert_eq!(rt; items_of(alloc, &value, &place, Some(2))?.len(), 2);
+    assert_eq!(rt; list_of(alloc, &value, &place, None)?, 2);
+    let list = read_list(alloc, &value, &place, None, &AnyText)?;
+    assert_eq!(rt; list.get(1).ok_or("short")?.as_str(), "b");
+    let texts = ListOf {
+        most: Some(1),
+        element: AnyText,
+    };
+    let refusal = offence_of(texts.read(alloc, &value, &place))?.ok_or("read")?;
+    assert_eq!(rt; refusal.place.as_str(), "/l");
+    assert_eq!(rt; refusal.kind, Kind::TooMany);
+    let mixed = read_value(alloc, r#"["a",null]"#.as_bytes())?;
+    let refusal = offence_of(read_list(alloc, &mixed, &place, None, &AnyText))?.ok_or("read")?;
+    assert_eq!(rt; refusal.place.as_str(), "/l/1");
+    assert_eq!(rt; refusal.kind, Kind::WrongKind);
+    Ok(())
+}
+
+#[test]
+fn leaves_and_places(rt: HostRuntime) -> Result<(), Fail> {
+    let alloc = rt.alloc();
+    let place = Text::of(alloc, "")?;
+    let text = read_value(alloc, br#""ALL""#.as_slice())?;
+    assert_eq!(rt; text_of(alloc, &text, &place)?.as_str(), "ALL");
+    assert_eq!(rt; choice_of(alloc, &text, &place, &["NONE", "ALL"])?, 1);
+    let truth = read_value(alloc, b"false".as_slice())?;
+    assert_eq!(rt; truth_of(alloc, &truth, &place)?, false);
+    let at = under(alloc, &at_index(alloc, &place, 10)?, "é~/")?;
+    assert_eq!(rt; at.as_str(), "/10/é~0~1");
+    let refusal = offence_of(choice_of(alloc, &text, &at, &["NONE"]))?.ok_or("read")?;
+    assert_eq!(rt; refusal.kind, Kind::OutOfRange);
+    let fail: Result<u8, ReadFail> = Err(refused_at(at, Kind::BadRegex { at: 3 }));
+    let refusal = offence_of(fail)?.ok_or("read")?;
+    assert_eq!(rt; refusal.kind, Kind::BadRegex { at: 3 });
+    Ok(())
+}
