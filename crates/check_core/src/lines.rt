@@ -6,7 +6,7 @@ ghost use Rattle.test_run.specs.Verdicts.{choice_at as choice_of_test, choices a
 ghost use Rattle.test_run.specs.Lines.{test_line as line_of_test, check_text, sum_line as line_of_sums};
 ghost use Rattle.test_run.specs.Coverage.{covered as covered_by};
 ghost use Rattle.cfg_types.specs.Order.{routes as routes_of};
-ghost use Rattle.run_terms.specs.Refusals.{kind_name as name_of, refusal_value as value_of_refusal, refusal_line};
+ghost use Rattle.run_terms.specs.Refusals.{kind_name as name_of, offset_of as offset_of_kind, refusal_value as value_of_refusal, refusal_line};
 
 use cfg_types::{Choice, Config};
 use json_walk::{Kind, Refusal};
@@ -23,7 +23,26 @@ fn kind_name(kind: Kind) -> &'static str
 {
     match kind {
         Kind::Syntax => "Syntax",
+        Kind::UnknownField => "UnknownField",
+        Kind::WrongKind => "WrongKind",
+        Kind::Missing => "Missing",
+        Kind::Conflict => "Conflict",
+        Kind::OutOfRange => "OutOfRange",
+        Kind::Duplicate => "Duplicate",
+        Kind::TooMany => "TooMany",
+        Kind::TooDeep => "TooDeep",
+        Kind::BadText => "BadText",
+        Kind::BadRegex { at: _ } => "BadRegex",
         Kind::NotInProfile => "NotInProfile",
+    }
+}
+
+fn offset_of(kind: Kind) -> Option<u32>
+    ensures { result ≡ offset_of_kind kind }
+{
+    match kind {
+        Kind::BadRegex { at } => Some(at),
+        _ => None,
     }
 }
 
@@ -32,7 +51,12 @@ fn refusal_value(alloc: Global, file: &str, refusal: &Refusal) -> Result<Value, 
 {
     let kind = kind_name(refusal.kind);
     let place = refusal.place.as_str();
-    json!(in alloc; {"kind": kind, "place": place, "refused": file})
+    match offset_of(refusal.kind) {
+        Some(at) => {
+            json!(in alloc; {"at": at, "kind": kind, "place": place, "refused": file})
+        }
+        None => json!(in alloc; {"kind": kind, "place": place, "refused": file}),
+    }
 }
 
 /// Writes the line of a refusal.

@@ -1,18 +1,18 @@
 -- The numbers of the first routes of hosts, host by host.
-use Rattle.std.proofs.Common.{◌≡◌, ℕ, zero, suc, ◌+◌, ◌<◌, ◌≤◌, ◌^◌, List, [], ◌∷◌, ◌++◌, length, map, get_or, take, Some, slice_get, refl, sym, ap, ◌∙◌, inl, inr, arith, length-append}
+use Rattle.std.proofs.Common.{◌≡◌, ℕ, zero, suc, ◌+◌, ◌<◌, ◌≤◌, ◌^◌, List, [], ◌∷◌, ◌++◌, length, get_or, take, Some, slice_get, refl, sym, ap, ◌∙◌, inl, inr, arith, length-append}
 use Rattle.std.proofs.lemmas.Bool.{cases_lt}
 use Rattle.std.proofs.lemmas.List.{take_all}
 use Rattle.std.proofs.lemmas.Option.{get_or_from_slice_get}
-use Rattle.cfg_types.specs.Order.{joined, host_routes, routes_of_hosts}
+use Rattle.cfg_types.specs.Order.{host_routes, routes_of_hosts}
 use Rattle.cfg_types.specs.Choices.{routes_before}
 use Rattle.cfg_types.specs.declared.configs.Host.{Host}
-use Rattle.cfg_types.proofs.Runs.{joined-more}
+use Rattle.text_base.proofs.Lists.{flat_map_through}
 use Rattle.route_scan.specs.Starts.{AreStarts}
 
 -- the routes through one host
 pub before_next : (hosts : List Host) (i : ℕ) (h : Host) → i < length hosts → h ≡ get_or hosts i h → routes_before hosts (i + 1) ≡ routes_before hosts i + length (host_routes h)
 before_next hosts i h lt is =
-    ap length (joined-more host_routes hosts i h lt is) ∙ length-append (routes_of_hosts (take i hosts)) (host_routes h)
+    ap length (flat_map_through host_routes hosts i h lt is) ∙ length-append (routes_of_hosts (take i hosts)) (host_routes h)
 
 within_all : (hosts : List Host) (i : ℕ) (h : Host) → slice_get hosts i ≡ Some h → routes_before hosts i + length (host_routes h) ≤ length (routes_of_hosts hosts)
 within_all [] i h e = absurd (cc)
