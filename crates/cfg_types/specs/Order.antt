@@ -1,5 +1,6 @@
 -- The routes of a configuration in route order.
-use Rattle.std.specs.Prelude.{ℕ, ◌+◌, List, [], ◌∷◌, ◌++◌, length, replicate, Option, Some, None, flat_map}
+use denote.Ref.{Bor}
+use Rattle.std.specs.Prelude.{◌≡◌, Result, MatchResult, slice_get, ℕ, ◌+◌, List, [], ◌∷◌, ◌++◌, length, replicate, Option, Some, None, flat_map}
 use Rattle.cfg_types.specs.declared.configs.Config.{Config}
 use Rattle.cfg_types.specs.declared.configs.Host.{Host}
 use Rattle.cfg_types.specs.declared.routes.Route.{Route}
@@ -82,3 +83,7 @@ owners f at (x ∷ xs) = replicate (length (f x)) at ++ owners f (at + 1) xs
 -- for each route the number of its host
 abbrev pub route_hosts : Config → List ℕ
 route_hosts c = owners host_routes 0 c.hosts
+
+-- the route of number `at` in a run, or how far past the run's end that number is
+abbrev pub IsSought : Run → ℕ → Result (Bor Route) ℕ → Type 0
+IsSought rs at r = MatchResult r (λ x. slice_get rs at ≡ Some x.now) (λ left. at ≡ left + length rs)

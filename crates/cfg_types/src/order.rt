@@ -1,12 +1,12 @@
 // The order of routes: hosts in order, lists in order, trees by walk.
-ghost use Rattle.std.specs.Prelude.{◌≡◌, ◌+◌, ◌<◌, ◌≤◌, length, flat_map, slice_get, MatchResult};
-ghost use Rattle.cfg_types.specs.Order.{routes, route_hosts, tree_routes, body_routes, branch_routes, entry_routes, key_routes, then_routes};
+ghost use Rattle.std.specs.Prelude.{◌≡◌, ◌+◌, ◌<◌, ◌≤◌, length, flat_map, slice_get};
+ghost use Rattle.cfg_types.specs.Order.{IsSought, routes, route_hosts, tree_routes, body_routes, branch_routes, entry_routes, key_routes, then_routes};
 
 use crate::{Body, Config, Entry, KeyThen, Route, Then, Tree, TreeBody};
 
 /// The route number `at` of `list`, or how far past its end it is.
 fn in_list(list: &[Route], at: u32) -> Result<&Route, u32>
-    ensures { MatchResult result (λ r. slice_get list.now at ≡ Some r.now) (λ left. at ≡ left + length list.now) }
+    ensures { IsSought list.now at result }
 {
     if (at as usize) < list.len() {
         Ok(&list[at as usize])
@@ -18,7 +18,7 @@ fn in_list(list: &[Route], at: u32) -> Result<&Route, u32>
 impl Config {
     /// The route number `at`, or how far past the last one it is.
     fn seek(&self, at: u32) -> Result<&Route, u32>
-        ensures { MatchResult result (λ r. slice_get (routes self.now) at ≡ Some r.now) (λ left. at ≡ left + length (routes self.now)) }
+        ensures { IsSought (routes self.now) at result }
     {
         let mut left = at;
         for host in self.hosts.as_slice() {
@@ -72,8 +72,9 @@ impl Config {
 }
 
 impl Body {
+    /// The route number `at` of a host, or how far past its last one it is.
     fn seek(&self, at: u32) -> Result<&Route, u32>
-        ensures { MatchResult result (λ r. slice_get (body_routes self.now) at ≡ Some r.now) (λ left. at ≡ left + length (body_routes self.now)) }
+        ensures { IsSought (body_routes self.now) at result }
     {
         match self {
             Body::List(list) => in_list(list.as_slice(), at),
@@ -83,9 +84,10 @@ impl Body {
 }
 
 impl Tree {
+    /// The same in a tree: in its entries, and then in what is left.
     #[cycle(seek)]
     fn seek(&self, at: u32) -> Result<&Route, u32>
-        ensures { MatchResult result (λ r. slice_get (tree_routes self.now) at ≡ Some r.now) (λ left. at ≡ left + length (tree_routes self.now)) }
+        ensures { IsSought (tree_routes self.now) at result }
     {
         match self.body.seek(at) {
             Ok(route) => Ok(route),
@@ -98,9 +100,10 @@ impl Tree {
 }
 
 impl TreeBody {
+    /// The same in the entries of a tree.
     #[cycle(seek)]
     fn seek(&self, at: u32) -> Result<&Route, u32>
-        ensures { MatchResult result (λ r. slice_get (branch_routes self.now) at ≡ Some r.now) (λ left. at ≡ left + length (branch_routes self.now)) }
+        ensures { IsSought (branch_routes self.now) at result }
     {
         match self {
             TreeBody::Bare => Err(at),
@@ -111,9 +114,10 @@ impl TreeBody {
     }
 }
 
+/// The same over the entries of a list, in order.
 #[cycle(seek)]
 fn seek_entries(entries: &[Entry], at: u32) -> Result<&Route, u32>
-    ensures { MatchResult result (λ r. slice_get (flat_map entry_routes entries.now) at ≡ Some r.now) (λ left. at ≡ left + length (flat_map entry_routes entries.now)) }
+    ensures { IsSought (flat_map entry_routes entries.now) at result }
 {
     let mut left = at;
     for entry in entries {
@@ -125,9 +129,10 @@ fn seek_entries(entries: &[Entry], at: u32) -> Result<&Route, u32>
     Err(left)
 }
 
+/// The same over the entries of a map, in order.
 #[cycle(seek)]
 fn seek_keys(keys: &[KeyThen], at: u32) -> Result<&Route, u32>
-    ensures { MatchResult result (λ r. slice_get (flat_map key_routes keys.now) at ≡ Some r.now) (λ left. at ≡ left + length (flat_map key_routes keys.now)) }
+    ensures { IsSought (flat_map key_routes keys.now) at result }
 {
     let mut left = at;
     for entry in keys {
@@ -140,9 +145,10 @@ fn seek_keys(keys: &[KeyThen], at: u32) -> Result<&Route, u32>
 }
 
 impl Then {
+    /// The same where an entry leads.
     #[cycle(seek)]
     fn seek(&self, at: u32) -> Result<&Route, u32>
-        ensures { MatchResult result (λ r. slice_get (then_routes self.now) at ≡ Some r.now) (λ left. at ≡ left + length (then_routes self.now)) }
+        ensures { IsSought (then_routes self.now) at result }
     {
         match self {
             Then::Inner(tree) => tree.get().seek(at),
