@@ -1,5 +1,5 @@
 -- Layers that are opened one inside another, and closed from the innermost one.
-use Rattle.std.proofs.Common.{◌≡◌, ℕ, ◌<◌, ◌≤◌, List, [], ◌∷◌, ◌++◌, length, refl, sym, ◌∙◌, ap, subst, arith}
+use Rattle.std.proofs.Common.{◌≡◌, ℕ, ◌<◌, ◌≤◌, List, [], ◌∷◌, ◌++◌, length, refl, sym, ◌∙◌, subst, arith}
 use Rattle.rx_term.specs.declared.terms.Term.{Term}
 use Rattle.rx_term.specs.Term.{cat, alt, star}
 use Rattle.rx_auto.specs.Distinct.{Extends}

@@ -1,5 +1,5 @@
 -- Terms of which the right part is still to be read.
-use Rattle.std.specs.Prelude.{◌≡◌, ℕ, ◌<◌, List, [], ◌∷◌, length}
+use Rattle.std.specs.Prelude.{◌≡◌, ℕ, List, [], ◌∷◌, length}
 use Rattle.rx_term.specs.declared.terms.Term.{Term}
 use Rattle.rx_term.specs.Term.{cat, alt, star}
 use Rattle.rx_auto.specs.declared.parts.Spot.{Spot}

@@ -1,4 +1,4 @@
-use Rattle.std.proofs.Common.{◌≡◌, ◌+◌, ◌-◌, ◌++◌, ◌∷◌, [], ◌<◌, ℕ, Bool, List, length, get_or, set, arith, true, false, sym, ◌∙◌, ap, subst}
+use Rattle.std.proofs.Common.{◌≡◌, ◌+◌, ◌-◌, ◌++◌, ◌∷◌, [], ◌<◌, ℕ, Bool, List, length, get_or, arith, false, sym, ◌∙◌, ap, subst}
 use Rattle.std.proofs.lemmas.List.{get_or_default}
 use Rattle.rx_auto.specs.Marks.{mark_at}
 use Rattle.rx_auto.proofs.Thinning.{IsOnce, once_skip, once_more}

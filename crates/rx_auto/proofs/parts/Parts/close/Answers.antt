@@ -1,5 +1,5 @@
-use Rattle.std.proofs.Common.{◌++◌, ◌∷◌, [], ◌∙◌, ap, sym, subst}
-use Rattle.rx_auto.proofs.Opening.{IsClosing, row_popped, choice_popped, loop_popped, closing_more, closing_at, nearly_done}
+use Rattle.std.proofs.Common.{◌++◌, ◌∷◌, [], ◌∙◌, ap}
+use Rattle.rx_auto.proofs.Opening.{row_popped, choice_popped, loop_popped, closing_more, closing_at}
 use Rattle.rx_auto.proofs.parts.Parts.close.Goals as goal
 use Rattle.rx_auto.proofs.parts.Parts.close.Goals.{in-Row+in_ok-piece-in-Row, in-Choice+in_ok-piece-in-Choice, in-Loop+in_ok-piece-in-Loop}
 
