@@ -44,42 +44,51 @@ fn head(alloc: Global, name: &str) -> Result<Field, OutOfMemory> {
     Ok(Field::of_header(Text::of(alloc, name)?))
 }
 
+/// Whether the header of this name is seen so.
+fn sees(
+    alloc: Global,
+    request: &Request,
+    name: &str,
+    value: Option<&str>,
+) -> Result<bool, OutOfMemory> {
+    let field = head(alloc, name)?;
+    Ok(request.see(&field) == value.map(|text| text.as_bytes()))
+}
+
 #[test]
-fn parts_and_names_of_headers_are_seen(rt: HostRuntime) -> Result<(), Fail> {
+fn parts_are_seen_by_names_of_headers(rt: HostRuntime) -> Result<(), Fail> {
     let alloc = rt.alloc();
-    let mut parts = parts_of(alloc, "x.com:80", "/p;v?x=1?y", &[])?;
-    let plain = Request::new(alloc, parts).ok().ok_or("plain")?;
-    parts = parts_of(alloc, "x.com", "/", &[])?;
+    let parts = parts_of(alloc, "x.com:80", "/p;v?x=1?y", &[])?;
+    let request = Request::new(alloc, parts).ok().ok_or("request")?;
+    for (name, value) in [
+        (":authority", Some("x.com:80")),
+        (":path", Some("/p;v?x=1?y")),
+        (":method", Some("GET")),
+        ("x-forwarded-proto", Some("http")),
+        ("x-envoy-internal", None),
+        ("x-a", None),
+    ] {
+        assert!(rt; sees(alloc, &request, name, value)?, "{name}");
+    }
+    assert_eq!(rt; request.see(&Field::Random), Some(b"000024".as_slice()));
+    assert_eq!(rt; request.see(&Field::Runtime), None);
+    assert_eq!(rt; request.path_part(), b"/p;v".as_slice());
+    assert_eq!(rt; request.parts().target.as_slice(), b"/p;v?x=1?y".as_slice());
+    Ok(())
+}
+
+#[test]
+fn https_internal_and_runtime_are_seen(rt: HostRuntime) -> Result<(), Fail> {
+    let alloc = rt.alloc();
+    let mut parts = parts_of(alloc, "x.com", "/", &[])?;
     parts.https = true;
     parts.internal = true;
     parts.runtime = bytes(alloc, "key")?;
-    let other = Request::new(alloc, parts).ok().ok_or("other")?;
-    for (name, first, second) in [
-        (":authority", Some("x.com:80"), Some("x.com")),
-        (":path", Some("/p;v?x=1?y"), Some("/")),
-        (":method", Some("GET"), Some("GET")),
-        ("x-forwarded-proto", Some("http"), Some("https")),
-        ("x-envoy-internal", None, Some("true")),
-        ("x-a", None, None),
-    ] {
-        let field = head(alloc, name)?;
-        assert_eq!(rt;
-            plain.see(&field),
-            first.map(|text| text.as_bytes()),
-            "{name}"
-        );
-        assert_eq!(rt;
-            other.see(&field),
-            second.map(|text| text.as_bytes()),
-            "{name}"
-        );
-    }
-    assert_eq!(rt; plain.see(&Field::Random), Some(b"000024".as_slice()));
-    assert_eq!(rt; plain.see(&Field::Runtime), None);
-    assert_eq!(rt; other.see(&Field::Runtime), Some(b"key".as_slice()));
-    assert_eq!(rt; plain.path_part(), b"/p;v".as_slice());
-    assert_eq!(rt; other.path_part(), b"/".as_slice());
-    assert_eq!(rt; plain.parts().target.as_slice(), b"/p;v?x=1?y".as_slice());
+    let request = Request::new(alloc, parts).ok().ok_or("request")?;
+    assert!(rt; sees(alloc, &request, "x-forwarded-proto", Some("https"))?);
+    assert!(rt; sees(alloc, &request, "x-envoy-internal", Some("true"))?);
+    assert_eq!(rt; request.see(&Field::Runtime), Some(b"key".as_slice()));
+    assert_eq!(rt; request.path_part(), b"/".as_slice());
     Ok(())
 }
 
