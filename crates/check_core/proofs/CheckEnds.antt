@@ -28,16 +28,16 @@ tests_there told files config tests c is e within = within tests (inr (refl, not
 pub tests_lead : (told : Option Contents) (config tests : List ℕ) (c : Config) → IsConfig told config c → Leads (IsThere tests) (AreThere (check config tests)) (TestsEnd tests) (Checks config tests) told
 tests_lead told config tests c is = record {
   there = λ files e within. tests_there told files config tests c is e within;
-  text = λ files e within t s ends. by_tests c (is files e (within config (inl refl))) ends
+  text = λ files e within t s ends. by_tests c (is files e (within config (inl refl))) ends;
 }
 
 -- after both files the verdicts are written
 pub check_end : (old m1 m2 : Outside) (told1 : Option Contents) (w1 : Option (List ℕ)) (s1 : ℕ) (config tests : List ℕ) (c : Config) (ts : List Test) (status : Status) → m1 ≡ old → m2 ≡ m1 → IsConfig old.files config c → AreTests m1.files tests ts → Finished (check_text c ts) (verdict (failed c ts)) m2.written w1 m2.write_faults s1 status → Ended (AreThere (check config tests)) (Checks config tests) (FrontOf (Checks config tests)) old (outside told1 w1 m2.read_faults s1) status
 check_end old m1 m2 told1 w1 s1 config tests c ts status e1 e2 is are fin =
     let text : (files : Contents) → m2.files ≡ Some files → AreThere (check config tests) files → Checks config tests files (check_text c ts) (verdict (failed c ts)) = λ files e within.
-        let e0 : old.files ≡ Some files = ap (λ (o : Outside). o.files) (sym (e2 ∙ e1)) ∙ e in
-        let em : m1.files ≡ Some files = ap (λ (o : Outside). o.files) (sym e2) ∙ e in
-        let read = are files em (tests_there old.files files config tests c is e0 within) in
-        by_verdicts c ts read.0 (is files e0 (within config (inl refl))) read.1 read.2 refl refl in
+    let e0 : old.files ≡ Some files = ap (λ (o : Outside). o.files) (sym (e2 ∙ e1)) ∙ e in
+    let em : m1.files ≡ Some files = ap (λ (o : Outside). o.files) (sym e2) ∙ e in
+    let read = are files em (tests_there old.files files config tests c is e0 within) in
+    by_verdicts c ts read.0 (is files e0 (within config (inl refl))) read.1 read.2 refl refl in
     subst (λ (m : Outside). Ended (AreThere (check config tests)) (Checks config tests) (FrontOf (Checks config tests)) m (outside told1 w1 m2.read_faults s1) status) (e2 ∙ e1)
     (finish_ended (check_text c ts) (verdict (failed c ts)) status m2.files told1 m2.written w1 m2.read_faults m2.read_faults m2.write_faults s1 (AreThere (check config tests)) (Checks config tests) (verdict_final (failed c ts)) refl text fin)

@@ -56,7 +56,7 @@ ended_within There Within Text Whole old new status l (write_fault is r t) =
     write_fault is r (λ files e within. let b = t files e (l.there files e within) in (b.0, (b.1.0, b.1.1, l.text files e within b.1.0 b.1.1 b.1.2, b.1.3), b.2))
 ended_within There Within Text Whole old new status l (no_memory is t) =
     no_memory is (λ files e within. elim (t files e (l.there files e within)) [
-      inl b ↦ inl (b.0, (b.1.0, b.1.1, l.text files e within b.1.0 b.1.1 b.1.2, b.1.3), b.2)
+      | inl b ↦ inl (b.0, (b.1.0, b.1.1, l.text files e within b.1.0 b.1.1 b.1.2, b.1.3), b.2)
       | inr w ↦ inr w
     ])
 

@@ -31,7 +31,7 @@ cause_later {T} {U} begin before now fail same h =
       later = k.later;
       failed = λ e. k.failed (let f : fail ≡ Failed = cc in ap Err f);
       kept = tt;
-      memory = λ e. k.memory (let f : fail ≡ OutOfMemory = cc in ap Err f)
+      memory = λ e. k.memory (let f : fail ≡ OutOfMemory = cc in ap Err f);
     }
 
 -- a text, and then one that fails
@@ -39,7 +39,7 @@ pub wrote_err : {T U V : Type 0} (w0 w1 w2 : Option (List ℕ)) (s0 s1 s2 : ℕ)
 wrote_err {T} {U} {V} w0 w1 w2 s0 s1 s2 a b text x fail same h k = record {
   ok = tt;
   err = front_last w0 w1 w2 a b h.ok (subst (λ (t : List ℕ). AppendsFront w1 w2 t) same k.err);
-  cause = cause_later {T = U} {U = V} s0 s1 s2 fail h.cause.kept k.cause
+  cause = cause_later {T = U} {U = V} s0 s1 s2 fail h.cause.kept k.cause;
 }
 
 -- a text, and then one more
@@ -49,7 +49,7 @@ wrote_ok w0 w1 w2 s0 s1 s2 a b text x y z same h k =
     record {
       ok = appends_on w0 w1 w2 a b h.ok (subst (λ (t : List ℕ). Appends w1 w2 t) same k.ok);
       err = tt;
-      cause = record { later = omega (arith, same_count); failed = λ e. absurd (cc e); kept = same_count; memory = λ e. absurd (cc e) }
+      cause = record { later = omega (arith, same_count); failed = λ e. absurd (cc e); kept = same_count; memory = λ e. absurd (cc e) };
     }
 
 -- memory ran out after some lines
@@ -57,5 +57,5 @@ pub no_room_after : {A T : Type 0} (f : A → List ℕ) (xs : List A) (i : ℕ) 
 no_room_after {A} {T} f xs i old now before after same h = record {
   ok = tt;
   err = (flat_map f (take i xs), (flat_map f (drop i xs), ap (flat_map f) (sym (take-append-drop i xs)) ∙ flat_map-append f (take i xs) (drop i xs)), h);
-  cause = record { later = omega (arith, same); failed = λ e. absurd (cc e); kept = tt; memory = λ e. same }
+  cause = record { later = omega (arith, same); failed = λ e. absurd (cc e); kept = tt; memory = λ e. same };
 }

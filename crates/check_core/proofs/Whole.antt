@@ -46,7 +46,7 @@ ended_ends There Text Front old new status law kept (whole f q t) = record {
   write = λ is. absurd (not_final status WriteFault f refl is);
   quiet = inr q;
   kept = kept;
-  grammar = λ is. not_final status Usage f refl is
+  grammar = λ is. not_final status Usage f refl is;
 }
 ended_ends There Text Front old new status law kept (too_long is q w t) = record {
   defined = λ files e there. inr ([], t files e there, appends_nothing _ _ w);
@@ -56,7 +56,7 @@ ended_ends There Text Front old new status law kept (too_long is q w t) = record
   write = λ h. absurd (cc (is, h));
   quiet = inr q;
   kept = kept;
-  grammar = λ h. cc (is, h)
+  grammar = λ h. cc (is, h);
 }
 ended_ends There Text Front old new status law kept (read_fault is r w) = record {
   defined = λ files e there. inl (inl is);
@@ -66,7 +66,7 @@ ended_ends There Text Front old new status law kept (read_fault is r w) = record
   write = λ h. absurd (cc (is, h));
   quiet = inl (inl is);
   kept = kept;
-  grammar = λ h. cc (is, h)
+  grammar = λ h. cc (is, h);
 }
 ended_ends There Text Front old new status law kept (write_fault is r t) = record {
   defined = λ files e there. inl (inr (inl is));
@@ -76,7 +76,7 @@ ended_ends There Text Front old new status law kept (write_fault is r t) = recor
   write = λ h. r;
   quiet = inl (inr (inl is));
   kept = kept;
-  grammar = λ h. cc (is, h)
+  grammar = λ h. cc (is, h);
 }
 ended_ends There Text Front old new status law kept (no_memory is t) = record {
   defined = λ files e there. inl (inr (inr is));
@@ -86,14 +86,14 @@ ended_ends There Text Front old new status law kept (no_memory is t) = record {
   write = λ h. absurd (cc (is, h));
   quiet = inl (inr (inr is));
   kept = kept;
-  grammar = λ h. cc (is, h)
+  grammar = λ h. cc (is, h);
 }
 
 -- where some text is due, the fronts of texts are fronts
 front_of : (There : Contents → Type 0) (Text : Contents → List ℕ → Status → Type 0) → IsTotal There Text → Fronts There Text (FrontOf Text)
 front_of There Text total = record {
   nothing = λ files there. let t = total files there in (t.0, t.1, t.2, (t.0, refl));
-  all = λ files there text status h. (text, status, h, front_all text)
+  all = λ files there text status h. (text, status, h, front_all text);
 }
 
 -- ---- check
@@ -107,8 +107,8 @@ stands_is files config c st f e there = let same : files ≡ f = cc in subst (λ
 
 tests_total : (config tests : List ℕ) (files : Contents) (c : Config) → Stands files config c → IsThere tests files → (text : List ℕ) × (status : Status) × Checks config tests files text status
 tests_total config tests files c st (bytes, f) = elim (cases_lt file_limit (length bytes)) [
-  inr le ↦ elim (known (tests_of bytes)) [
-    inl k ↦ (check_text c k.0, verdict (failed c k.0), by_verdicts c k.0 bytes st (f, le) k.1 refl refl)
+  | inr le ↦ elim (known (tests_of bytes)) [
+    | inl k ↦ (check_text c k.0, verdict (failed c k.0), by_verdicts c k.0 bytes st (f, le) k.1 refl refl)
     | inr k ↦ (_, Refused, by_tests c st (refused_tests bytes k.0 (f, le) k.1 refl refl))
   ]
   | inl long ↦ ([], TooLong, by_tests c st (long_tests bytes f long refl refl))
@@ -116,9 +116,9 @@ tests_total config tests files c st (bytes, f) = elim (cases_lt file_limit (leng
 
 config_total : (config tests : List ℕ) (files : Contents) → AreThere (check config tests) files → IsThere config files → (text : List ℕ) × (status : Status) × Checks config tests files text status
 config_total config tests files there (bytes, f) = elim (cases_lt file_limit (length bytes)) [
-  inr le ↦ elim (known (config_of bytes)) [
-    inl k ↦ let st : Stands files config k.0 = record { bytes = bytes; fit = (f, le); reads = k.1 } in
-      tests_total config tests files k.0 st (there tests (inr (refl, not_stopped (Some files) config k.0 (stands_is files config k.0 st))))
+  | inr le ↦ elim (known (config_of bytes)) [
+    | inl k ↦ let st : Stands files config k.0 = record { bytes = bytes; fit = (f, le); reads = k.1 } in
+        tests_total config tests files k.0 st (there tests (inr (refl, not_stopped (Some files) config k.0 (stands_is files config k.0 st))))
     | inr k ↦ (_, Refused, by_config (refused_config bytes k.0 (f, le) k.1 refl refl))
   ]
   | inl long ↦ ([], TooLong, by_config (long_config bytes f long refl refl))

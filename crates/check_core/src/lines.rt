@@ -52,9 +52,7 @@ fn refusal_value(alloc: Global, file: &str, refusal: &Refusal) -> Result<Value, 
     let kind = kind_name(refusal.kind);
     let place = refusal.place.as_str();
     match offset_of(refusal.kind) {
-        Some(at) => {
-            json!(in alloc; {"at": at, "kind": kind, "place": place, "refused": file})
-        }
+        Some(at) => { json!(in alloc; {"at": at, "kind": kind, "place": place, "refused": file}) }
         None => json!(in alloc; {"kind": kind, "place": place, "refused": file}),
     }
 }
@@ -158,7 +156,13 @@ fn sum_text(
 {
     let routes = scan.count();
     let covered = count_covered(alloc, &verdicts.choices, routes)?;
-    sum_line(alloc, covered, verdicts.failed as u64, routes as u64, tests.len() as u64)
+    sum_line(
+        alloc,
+        covered,
+        verdicts.failed as u64,
+        routes as u64,
+        tests.len() as u64,
+    )
 }
 
 /// Writes the lines of all tests and the sum line. The result is the number of the failed tests.

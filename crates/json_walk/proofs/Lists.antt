@@ -40,7 +40,7 @@ pub read_more_at : {A : Type 0} (form : ℕ → Data → Option A) (list : List 
 read_more_at form list i v x front next lt is reads same so_far =
     let here : each_at form i (items_view (drop i list)) ≡ option_map (λ xs. x ∷ xs) (each_at form (i + 1) (items_view (drop (suc i) list))) = at_next_at form list i v lt is ∙ ap (option_and_then (λ y. option_map (λ xs. y ∷ xs) (each_at form (i + 1) (items_view (drop (suc i) list))))) (sym reads) in
     let step : option_map (λ xs. next ++ xs) (each_at form (i + 1) (items_view (drop (suc i) list))) ≡ each_at form 0 (items_view list) =
-      rw same (sym (push_front (each_at form (i + 1) (items_view (drop (suc i) list))) front x) ∙ ap (option_map (λ xs. front ++ xs)) (sym here) ∙ so_far) in
+    rw same (sym (push_front (each_at form (i + 1) (items_view (drop (suc i) list))) front x) ∙ ap (option_map (λ xs. front ++ xs)) (sym here) ∙ so_far) in
     ap (λ (n : ℕ). option_map (λ xs. next ++ xs) (each_at form (i + 1) (items_view (drop n list)))) (add-one i) ∙ step
 
 pub read_none_at : {A : Type 0} (form : ℕ → Data → Option A) (list : List Value) (i : ℕ) (v : Value) (front : List A) → i < length list → v ≡ get_or list i v → None ≡ form i (view v) → ReadSoFarAt form front i (drop i list) list → None ≡ each_at form 0 (items_view list)

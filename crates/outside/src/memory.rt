@@ -78,7 +78,7 @@ impl Files for MemoryFiles {
     ghost faults = { λ files. files.faults };
 
     fn read(&mut self, name: &str, from: u64, buf: &mut [u8]) -> Result<usize, Failed>
-                requires { 0 < length buf.old }
+        requires { 0 < length buf.old }
         ensures within { IfOk result (λ n. n ≤ length buf.new) }
         ensures bytes { IfOk result (λ n. ReadsFrom (Some (contents_of self.old.map.items)) name.now from n buf.new) }
         ensures contents { Some (contents_of self.new.map.items) ≡ Some (contents_of self.old.map.items) }

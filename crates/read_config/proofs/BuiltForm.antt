@@ -105,9 +105,9 @@ kept_some : (o : Option (List Host)) (c : Config) → ((hs : List Host) → o �
 kept_some None c h e = absurd (cc e)
 kept_some (Some hs) c h e = kept_if (are_hosts hs) hs c (h hs refl) e
   where
-  kept_if : (b : Bool) (hs : List Host) (c : Config) → list_all is_built_host hs ≡ true → option_map config_with (if b then Some hs else None) ≡ Some c → is_built c ≡ true
-  kept_if true hs c h e = let same : c ≡ config_with hs = cc in ap is_built same ∙ h
-  kept_if false hs c h e = absurd (cc e)
+    kept_if : (b : Bool) (hs : List Host) (c : Config) → list_all is_built_host hs ≡ true → option_map config_with (if b then Some hs else None) ≡ Some c → is_built c ≡ true
+    kept_if true hs c h e = let same : c ≡ config_with hs = cc in ap is_built same ∙ h
+    kept_if false hs c h e = absurd (cc e)
 
 list_some : (o : Option Data) (hs : List Host) → option_and_then (list_at host_in) o ≡ Some hs → list_all is_built_host hs ≡ true
 list_some None hs e = absurd (cc e)

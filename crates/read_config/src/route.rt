@@ -107,7 +107,11 @@ fn route(alloc: Global, place: Text, value: &Value) -> Result<Option<Route>, All
     }))
 }
 
-fn each_route(alloc: Global, host: &Text, list: &[Value]) -> Result<Option<Items<Route>>, AllocError>
+fn each_route(
+    alloc: Global,
+    host: &Text,
+    list: &[Value],
+) -> Result<Option<Items<Route>>, AllocError>
     ensures { IfOk result (λ rs. rs ≡ each_at (route_in host.now) 0 (items_view list.now)) }
 {
     let mut routes = Vec::new(alloc);

@@ -1,6 +1,6 @@
 // Configurations that are read, and texts that are refused, each with its kind.
 use crate::read_config;
-use cfg_types::{Domain, PathRule};
+use cfg_types::{Act, Body, Domain, Forward, Host, PathRule, Route, Target};
 use json_walk::{Kind, ReadFail};
 use std::alloc::{AllocError, Global};
 use std::test::Fail;
@@ -57,6 +57,27 @@ fn domains(alloc: Global, count: usize) -> Result<String, AllocError> {
     Ok(list)
 }
 
+/// The route of a host of one route.
+fn only_route(host: &Host) -> Option<&Route> {
+    match &host.body {
+        Body::List(routes) if routes.len() == 1 => routes.get(0),
+        _ => None,
+    }
+}
+
+/// The cluster that the route sends to.
+fn cluster(route: &Route) -> Option<&str> {
+    match &route.act {
+        Act::Forward(
+            Forward {
+                to: Target::Cluster(name),
+                ..
+            },
+        ) => Some(name.as_str()),
+        _ => None,
+    }
+}
+
 #[test]
 fn a_host_of_one_route_is_read(rt: HostRuntime) -> Result<(), Fail> {
     let text =
@@ -67,10 +88,9 @@ fn a_host_of_one_route_is_read(rt: HostRuntime) -> Result<(), Fail> {
     assert_eq!(rt; host.name.as_str(), "h");
     assert_eq!(rt; host.domains.len(), 1);
     assert!(rt; matches!(host.domains.get(0), Some(Domain::Any)));
-    assert_eq!(rt; host.routes.len(), 1);
-    let route = host.routes.get(0).ok_or("no route")?;
-    assert_eq!(rt; route.cluster.as_str(), "a");
-    assert!(rt; matches!(&route.path, PathRule::Prefix(value) if value.as_str() == "/"));
+    let route = only_route(host).ok_or("no route")?;
+    assert_eq!(rt; cluster(route).ok_or("no cluster")?, "a");
+    assert!(rt; matches!(&route.rule.path, PathRule::Prefix(value) if value.as_str() == "/"));
     Ok(())
 }
 

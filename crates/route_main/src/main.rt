@@ -5,11 +5,10 @@ mod host;
 
 use check_core::{Status, run};
 use host::{HostFiles, HostSink};
-use std::env;
-use std::io;
 use std::io::ErrorKind;
 use std::process::ExitCode;
 use std::rt::Env;
+use std::{env, io};
 
 /// The words after the program's name.
 fn words(rt: &(impl Env + AllocGlobal)) -> io::Result<Vec<String>> {

@@ -51,18 +51,19 @@ start_is hosts starts i h are e = are.start_at i (let below = number_below hosts
 pub pushed : (hosts : List Host) (starts next : List ℕ) (i at : ℕ) → length starts ≡ i → ((k : ℕ) → k < i → get_or starts k 0 ≡ routes_before hosts k) → at ≡ routes_before hosts i → next ≡ starts ++ at ∷ [] → (k : ℕ) → k < i + 1 → get_or next k 0 ≡ routes_before hosts k
 pushed hosts starts next i at many h is e k lt =
     elim (cases_lt k i) [
-      inl below ↦ ap (λ (l : List ℕ). get_or l k 0) e ∙ get_or-append_front starts (at ∷ []) k 0 (omega (arith, many, below)) ∙ h k below
+      | inl below ↦ ap (λ (l : List ℕ). get_or l k 0) e ∙ get_or-append_front starts (at ∷ []) k 0 (omega (arith, many, below)) ∙ h k below
       | inr above ↦ let same : k ≡ i = omega (arith, above, lt) in
-        ap (λ (l : List ℕ). get_or l k 0) e ∙ ap (λ (n : ℕ). get_or (starts ++ at ∷ []) n 0) (same ∙ sym many) ∙ get_or-append_end starts at ∙ is ∙ ap (routes_before hosts) (sym same)
+          ap (λ (l : List ℕ). get_or l k 0) e ∙ ap (λ (n : ℕ). get_or (starts ++ at ∷ []) n 0) (same ∙ sym many) ∙ get_or-append_end starts at ∙ is ∙ ap (routes_before hosts) (sym same)
     ]
   where
-  get_or-append_front : (xs ys : List ℕ) (k d : ℕ) → k < length xs → get_or (xs ++ ys) k d ≡ get_or xs k d
-  get_or-append_front [] ys k d lt = absurd (omega arith)
-  get_or-append_front (x ∷ xs) ys zero d lt = refl
-  get_or-append_front (x ∷ xs) ys (suc k) d lt = get_or-append_front xs ys k d (omega arith)
-  get_or-append_end : (xs : List ℕ) (x : ℕ) → get_or (xs ++ x ∷ []) (length xs) 0 ≡ x
-  get_or-append_end [] x = refl
-  get_or-append_end (y ∷ ys) x = get_or-append_end ys x
+    get_or-append_front : (xs ys : List ℕ) (k d : ℕ) → k < length xs → get_or (xs ++ ys) k d ≡ get_or xs k d
+    get_or-append_front [] ys k d lt = absurd (omega arith)
+    get_or-append_front (x ∷ xs) ys zero d lt = refl
+    get_or-append_front (x ∷ xs) ys (suc k) d lt = get_or-append_front xs ys k d (omega arith)
+
+    get_or-append_end : (xs : List ℕ) (x : ℕ) → get_or (xs ++ x ∷ []) (length xs) 0 ≡ x
+    get_or-append_end [] x = refl
+    get_or-append_end (y ∷ ys) x = get_or-append_end ys x
 
 -- the number of all routes
 pub count_is : (hosts : List Host) (starts : List ℕ) → AreStarts hosts starts → get_or starts (length hosts) 0 ≡ length (routes_of_hosts hosts)

@@ -121,10 +121,10 @@ first_of_host c q i h rs t e is =
     let own : host_routes h ≡ rs = ap body_routes is in
     find_from (holds_at c q) (λ (r : Route). path_holds r.rule.path false (path_of q.target)) rs (routes_before c.hosts i)
     (λ j r f.
-      let at : slice_get (routes c) (routes_before c.hosts i + j) ≡ Some r = route_at_host c.hosts i h j r e (ap (λ (l : List Route). slice_get l j) own ∙ f) in
-      ap (λ (b : Bool). route_holds b (slice_get (routes c) (routes_before c.hosts i + j)) q) built.2
-      ∙ ap (λ (o : Option Route). route_holds false o q) at
-      ∙ plain_rule r.rule q (and_true _ _ (all_at is_built_route rs j r listed f)).0)
+    let at : slice_get (routes c) (routes_before c.hosts i + j) ≡ Some r = route_at_host c.hosts i h j r e (ap (λ (l : List Route). slice_get l j) own ∙ f) in
+    ap (λ (b : Bool). route_holds b (slice_get (routes c) (routes_before c.hosts i + j)) q) built.2
+    ∙ ap (λ (o : Option Route). route_holds false o q) at
+    ∙ plain_rule r.rule q (and_true _ _ (all_at is_built_route rs j r listed f)).0)
     ∙ ap (λ (n : ℕ). position_from (λ (r : Route). path_holds r.rule.path false (path_of q.target)) n rs) (omega arith)
     ∙ position_shift (λ (r : Route). path_holds r.rule.path false (path_of q.target)) rs (routes_before c.hosts i) 0
 

@@ -19,12 +19,7 @@ pub fn line_of(alloc: Global, value: &Value) -> Result<String, OutOfMemory>
 }
 
 /// The verdict on a test that expects one cluster and gets another.
-fn test_value(
-    alloc: Global,
-    name: &str,
-    expected: &str,
-    actual: &str,
-) -> Result<Value, OutOfMemory>
+fn test_value(alloc: Global, name: &str, expected: &str, actual: &str) -> Result<Value, OutOfMemory>
     ensures { IfOk result (λ v. view v ≡ value_of_test name.now expected.now actual.now) }
 {
     if actual == expected {
@@ -54,7 +49,12 @@ fn sum_value(
 pub fn test_line(alloc: Global, test: &Test, actual: &str) -> Result<String, OutOfMemory>
     ensures { IfOk result (λ s. string_bytes s ≡ line_of_value (value_of_test test.now.name test.now.cluster_name actual.now)) }
 {
-    let value = test_value(alloc, test.name.as_str(), test.cluster_name.as_str(), actual)?;
+    let value = test_value(
+        alloc,
+        test.name.as_str(),
+        test.cluster_name.as_str(),
+        actual,
+    )?;
     line_of(alloc, &value)
 }
 

@@ -1,7 +1,9 @@
-//! Worked cases of the program's top call, as tests over files and sinks in memory.
+//! Worked cases of the program's top call and of the calls below it, as tests over files and sinks in memory.
 #![tactic(auto)]
 
 #[cfg(test)]
 mod cases;
 #[cfg(test)]
 mod faults;
+#[cfg(test)]
+mod parts;

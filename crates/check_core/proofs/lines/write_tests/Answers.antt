@@ -12,7 +12,7 @@ returns-in-Err-write_test-clause-lines g c =
     record {
       ok = tt;
       err = front_on _ _ _ _ _ _ _ inv.lines wrote.err (flat_map_at (test_line c.args.config.now) c.args.tests.now c.loop-test.test-index c.test-item.result lt c.test-item.is);
-      cause = cause_later _ _ _ _ inv.count wrote.cause
+      cause = cause_later _ _ _ _ inv.count wrote.cause;
     }
 
 pub returns-in-Err-clause-lines : goal.returns-in-Err-clause-lines

@@ -10,5 +10,5 @@ invariant-loop-test g l = record {
   failed : l.failed ≡ count_by (λ t. not (passes l.config t)) (take l.test-index l.tests);
   few : l.failed ≤ l.test-index;
   chosen : l.choices.items ≡ choices l.config (take l.test-index l.tests);
-  count : g.K.Sink.faults l.out ≡ g.K.Sink.faults l.initial.out
+  count : g.K.Sink.faults l.out ≡ g.K.Sink.faults l.initial.out;
 }

@@ -14,7 +14,7 @@ unfolding check_text failed
 returns-in_default-clause-lines g c = let w = c.in-Ok.ensures.lines in record {
   ok = tt;
   err = (_, (_, refl), w.ok);
-  cause = record { later = w.cause.later; failed = λ e. absurd (cc e); kept = tt; memory = λ e. w.cause.kept }
+  cause = record { later = w.cause.later; failed = λ e. absurd (cc e); kept = tt; memory = λ e. w.cause.kept };
 }
 
 pub returns-in-Ok-write_whole-clause-lines : goal.returns-in-Ok-write_whole-clause-lines

@@ -17,5 +17,5 @@ loop-bytes-preserved g c =
       within = omega (arith, more.len, length-take {A = ℕ}, read.within, c.min-room.ensures);
       contents = read.contents ∙ c.loop-bytes.invariant.contents;
       names = λ other. read.names other ∙ c.loop-bytes.invariant.names other;
-      count = read.cause.kept ∙ c.loop-bytes.invariant.count
+      count = read.cause.kept ∙ c.loop-bytes.invariant.count;
     }

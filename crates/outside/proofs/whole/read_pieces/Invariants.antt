@@ -9,7 +9,7 @@ invariant-loop-bytes g l = record {
   within : vec_len l.bytes ≤ l.limit + 1;
   contents : g.F.Files.told l.files ≡ g.F.Files.told l.initial.files;
   names : (other : List ℕ) → g.F.Files.admits l.files other ≡ g.F.Files.admits l.initial.files other;
-  count : g.F.Files.faults l.files ≡ g.F.Files.faults l.initial.files
+  count : g.F.Files.faults l.files ≡ g.F.Files.faults l.initial.files;
 }
 
 abbrev pub decreases-loop-bytes : goal.decreases-loop-bytes

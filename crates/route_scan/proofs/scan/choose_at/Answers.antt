@@ -42,8 +42,8 @@ returns-in-None c =
     let found : None ≡ position_from (λ (r : Route). path_holds r.rule.path false (c.path_part.result.now)) 0 c.as_slice.result.now = c.in-None.ensures.place in
     sym
     (host_choice c.args.config.now (plain_request c.args.authority.now c.args.target.now) c.args.number c.args.host.now c.as_slice.result.now None c.requires.built c.requires.host
-      (c.in-List.is ∙ ap body.List (sym c.as_slice.ensures))
-      (found ∙ ap (λ (p : Bytes). position_from (λ (r : Route). path_holds r.rule.path false p) 0 c.as_slice.result.now) c.path_part.ensures))
+    (c.in-List.is ∙ ap body.List (sym c.as_slice.ensures))
+    (found ∙ ap (λ (p : Bytes). position_from (λ (r : Route). path_holds r.rule.path false p) 0 c.as_slice.result.now) c.path_part.ensures))
 
 pub returns-in-Some : goal.returns-in-Some
 returns-in-Some c =
@@ -52,5 +52,5 @@ returns-in-Some c =
     ap (λ (n : ℕ). choice.Chosen (n + c.in-Some.at)) start
     ∙ sym
     (host_choice c.args.config.now (plain_request c.args.authority.now c.args.target.now) c.args.number c.args.host.now c.as_slice.result.now (Some c.in-Some.at) c.requires.built c.requires.host
-      (c.in-List.is ∙ ap body.List (sym c.as_slice.ensures))
-      (found ∙ ap (λ (p : Bytes). position_from (λ (r : Route). path_holds r.rule.path false p) 0 c.as_slice.result.now) c.path_part.ensures))
+    (c.in-List.is ∙ ap body.List (sym c.as_slice.ensures))
+    (found ∙ ap (λ (p : Bytes). position_from (λ (r : Route). path_holds r.rule.path false p) 0 c.as_slice.result.now) c.path_part.ensures))

@@ -11,7 +11,7 @@ loop-host-preserved c =
       many = omega (arith, ap length c.in_ok-push.ensures.items, length-append c.loop-host.starts.items (c.loop-host.next ∷ []), inv.many);
       start_at = pushed c.args.hosts.now c.loop-host.starts.items c.push.new.self.items c.loop-host.host-index c.loop-host.next inv.many inv.start_at inv.next c.in_ok-push.ensures.items;
       next = omega (arith, more, inv.next, c.in-Some.ensures, c.in-Ok.ensures, c.listed.ensures);
-      small = omega (arith, c.in-Some.ensures)
+      small = omega (arith, c.in-Some.ensures);
     }
 
 pub returns : goal.returns
@@ -23,5 +23,5 @@ returns c =
       many = omega (arith, ap length c.in_ok-push-2.ensures.items, length-append c.loop-host.starts.items (c.loop-host.next ∷ []), inv.many, end);
       start_at = λ h le. pushed c.args.hosts.now c.loop-host.starts.items c.push-2.new.self.items c.loop-host.host-index c.loop-host.next inv.many inv.start_at inv.next c.in_ok-push-2.ensures.items h (omega arith);
       few_hosts = search rules;
-      few_routes = omega (arith, all, inv.next, inv.small)
+      few_routes = omega (arith, all, inv.next, inv.small);
     }

@@ -7,5 +7,5 @@ use Rattle.test_run.proofs.coverage.flags_of.Given as goal
 abbrev pub invariant-loop-choice : goal.invariant-loop-choice
 invariant-loop-choice l = record {
   many : vec_len l.flags ≡ l.routes;
-  sent : (r : ℕ) → r < l.routes → get_or l.flags.items r false ≡ list_any (is_sent_to r) (take l.choice-index l.choices)
+  sent : (r : ℕ) → r < l.routes → get_or l.flags.items r false ≡ list_any (is_sent_to r) (take l.choice-index l.choices);
 }
