@@ -1,4 +1,4 @@
-// The fields whose meaning is not built yet. Once one is, it goes here and in `specs/Unbuilt.antt`, and in no other place.
+// The fields whose meaning is not built yet. One that is built is taken out here and in `specs/Unbuilt.antt`, nowhere else.
 ghost use Rattle.std.specs.Prelude.{◌≡◌, map};
 ghost use Rattle.json_tables.specs.declared.message.Message.TheVariants as messages;
 ghost use Rattle.json_tables.specs.Spellings.{both, spellings};

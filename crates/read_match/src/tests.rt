@@ -309,20 +309,38 @@ fn letters(alloc: Global, count: usize) -> Result<String, ReadFail> {
     Ok(text)
 }
 
+/// What is wrong with a text of so many letters, if anything is.
+fn kind_of_letters<R: Reader>(
+    alloc: Global,
+    count: usize,
+    reader: &R,
+) -> Result<Option<Kind>, ReadFail> {
+    let text = letters(alloc, count)?;
+    match offence_of(alloc, text.as_str(), reader)? {
+        Some(refusal) => Ok(Some(refusal.kind)),
+        None => Ok(None),
+    }
+}
+
 #[test]
 fn long_texts_are_too_many(rt: HostRuntime) -> Result<(), Fail> {
     let alloc = rt.alloc();
-    let longest = letters(alloc, 4_096)?;
-    assert!(rt; offence_of(alloc, longest.as_str(), &PathText)?.is_none());
-    let long = letters(alloc, 4_097)?;
-    let refusal = offence_of(alloc, long.as_str(), &PathText)?.ok_or("read")?;
-    assert_eq!(rt; refusal.kind, Kind::TooMany);
-    let longest = letters(alloc, 1_024)?;
-    assert!(rt; offence_of(alloc, longest.as_str(), &FieldName)?.is_none());
-    let long = letters(alloc, 1_025)?;
-    let refusal = offence_of(alloc, long.as_str(), &EditName)?.ok_or("read")?;
-    assert_eq!(rt; refusal.kind, Kind::TooMany);
-    let host = offence_of(alloc, r#""Host""#, &EditName)?.ok_or("read")?;
-    assert_eq!(rt; host.kind, Kind::BadText);
+    assert_eq!(rt; kind_of_letters(alloc, 4_096, &PathText)?, None);
+    assert_eq!(rt;
+        kind_of_letters(alloc, 4_097, &PathText)?,
+        Some(Kind::TooMany)
+    );
+    assert_eq!(rt; kind_of_letters(alloc, 1_024, &FieldName)?, None);
+    assert_eq!(rt;
+        kind_of_letters(alloc, 1_025, &EditName)?,
+        Some(Kind::TooMany)
+    );
+    Ok(())
+}
+
+#[test]
+fn host_is_no_edit_name(rt: HostRuntime) -> Result<(), Fail> {
+    let refusal = offence_of(rt.alloc(), r#""Host""#, &EditName)?.ok_or("read")?;
+    assert_eq!(rt; refusal.kind, Kind::BadText);
     Ok(())
 }
