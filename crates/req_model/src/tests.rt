@@ -68,8 +68,17 @@ fn parts_are_seen_by_names_of_headers(rt: HostRuntime) -> Result<(), Fail> {
         ("x-envoy-internal", None),
         ("x-a", None),
     ] {
-        assert!(rt; sees(alloc, &request, name, value)?, "{name}");
+        let seen = sees(alloc, &request, name, value)?;
+        assert!(rt; seen, "{name}");
     }
+    Ok(())
+}
+
+#[test]
+fn random_runtime_and_path_are_seen(rt: HostRuntime) -> Result<(), Fail> {
+    let alloc = rt.alloc();
+    let parts = parts_of(alloc, "x.com", "/p;v?x=1?y", &[])?;
+    let request = Request::new(alloc, parts).ok().ok_or("request")?;
     assert_eq!(rt; request.see(&Field::Random), Some(b"000024".as_slice()));
     assert_eq!(rt; request.see(&Field::Runtime), None);
     assert_eq!(rt; request.path_part(), b"/p;v".as_slice());
@@ -85,10 +94,11 @@ fn https_internal_and_runtime_are_seen(rt: HostRuntime) -> Result<(), Fail> {
     parts.internal = true;
     parts.runtime = bytes(alloc, "key")?;
     let request = Request::new(alloc, parts).ok().ok_or("request")?;
-    assert!(rt; sees(alloc, &request, "x-forwarded-proto", Some("https"))?);
-    assert!(rt; sees(alloc, &request, "x-envoy-internal", Some("true"))?);
+    for (name, value) in [("x-forwarded-proto", "https"), ("x-envoy-internal", "true")] {
+        let seen = sees(alloc, &request, name, Some(value))?;
+        assert!(rt; seen, "{name}");
+    }
     assert_eq!(rt; request.see(&Field::Runtime), Some(b"key".as_slice()));
-    assert_eq!(rt; request.path_part(), b"/".as_slice());
     Ok(())
 }
 
