@@ -6,17 +6,23 @@ use std::alloc::Global;
 use std::test::Fail;
 use text_base::{OutOfMemory, Text};
 
-pub const CONFIG: &str = "{\"virtual_hosts\":[{\"name\":\"h\",\"domains\":[\"*\"],\"routes\":[{\"match\":{\"prefix\":\"/\"},\"route\":{\"cluster\":\"a\"}}]}]}";
+pub const CONFIG: &str =
+    "{\"virtual_hosts\":[{\"name\":\"h\",\"domains\":[\"*\"],\"routes\":[{\"match\":{\"prefix\":\"/\"},\"route\":{\"cluster\":\"a\"}}]}]}";
 
-pub const PASSING: &str = "{\"tests\":[{\"test_name\":\"t\",\"input\":{\"authority\":\"x.com\",\"path\":\"/\"},\"validate\":{\"cluster_name\":\"a\"}}]}";
+pub const PASSING: &str =
+    "{\"tests\":[{\"test_name\":\"t\",\"input\":{\"authority\":\"x.com\",\"path\":\"/\"},\"validate\":{\"cluster_name\":\"a\"}}]}";
 
-const FAILING: &str = "{\"tests\":[{\"test_name\":\"t\",\"input\":{\"authority\":\"x.com\",\"path\":\"/\"},\"validate\":{\"cluster_name\":\"b\"}}]}";
+const FAILING: &str =
+    "{\"tests\":[{\"test_name\":\"t\",\"input\":{\"authority\":\"x.com\",\"path\":\"/\"},\"validate\":{\"cluster_name\":\"b\"}}]}";
 
-const EXPECTS_NOTHING: &str = "{\"tests\":[{\"test_name\":\"t\",\"input\":{\"authority\":\"x.com\",\"path\":\"/\"},\"validate\":{\"cluster_name\":\"\"}}]}";
+const EXPECTS_NOTHING: &str =
+    "{\"tests\":[{\"test_name\":\"t\",\"input\":{\"authority\":\"x.com\",\"path\":\"/\"},\"validate\":{\"cluster_name\":\"\"}}]}";
 
-pub const PASS_LINES: &str = "{\"failures\":[],\"test\":\"t\",\"verdict\":\"pass\"}\n{\"covered\":1,\"failed\":0,\"routes\":1,\"tests\":1}\n";
+pub const PASS_LINES: &str =
+    "{\"failures\":[],\"test\":\"t\",\"verdict\":\"pass\"}\n{\"covered\":1,\"failed\":0,\"routes\":1,\"tests\":1}\n";
 
-const FAIL_LINES: &str = "{\"failures\":[{\"actual\":\"a\",\"expected\":\"b\",\"field\":\"cluster_name\"}],\"test\":\"t\",\"verdict\":\"fail\"}\n{\"covered\":1,\"failed\":1,\"routes\":1,\"tests\":1}\n";
+const FAIL_LINES: &str =
+    "{\"failures\":[{\"actual\":\"a\",\"expected\":\"b\",\"field\":\"cluster_name\"}],\"test\":\"t\",\"verdict\":\"fail\"}\n{\"covered\":1,\"failed\":1,\"routes\":1,\"tests\":1}\n";
 
 /// A map of the two files `c` and `t`.
 pub fn two_files(
@@ -80,17 +86,49 @@ fn outcome(
 fn verdicts_and_refusals(rt: HostRuntime) -> Result<(), Fail> {
     let alloc = rt.alloc();
     let none = "{\"virtual_hosts\":[]}";
-    let nothing_covered = "{\"failures\":[],\"test\":\"t\",\"verdict\":\"pass\"}\n{\"covered\":0,\"failed\":0,\"routes\":0,\"tests\":1}\n";
+    let nothing_covered =
+        "{\"failures\":[],\"test\":\"t\",\"verdict\":\"pass\"}\n{\"covered\":0,\"failed\":0,\"routes\":0,\"tests\":1}\n";
     let cut = "{\"virtual_hosts\":[{\"name\":\"h";
-    let twice = "{\"virtual_hosts\":[{\"name\":\"g\",\"domains\":[\"A.com\"],\"routes\":[]},{\"name\":\"h\",\"domains\":[\"a.com\"],\"routes\":[]}]}";
+    let twice =
+        "{\"virtual_hosts\":[{\"name\":\"g\",\"domains\":[\"A.com\"],\"routes\":[]},{\"name\":\"h\",\"domains\":[\"a.com\"],\"routes\":[]}]}";
     let rows = [
         ("passing", CONFIG, PASSING, Status::Done, PASS_LINES),
         ("failing", CONFIG, FAILING, Status::TestsFailed, FAIL_LINES),
-        ("no host", none, EXPECTS_NOTHING, Status::Done, nothing_covered),
-        ("cut", cut, PASSING, Status::Refused, "{\"kind\":\"Syntax\",\"place\":\"\",\"refused\":\"config\"}\n"),
-        ("twice", twice, PASSING, Status::Refused, "{\"kind\":\"NotInProfile\",\"place\":\"\",\"refused\":\"config\"}\n"),
-        ("bad tests", CONFIG, "{\"tests\":[{}]}", Status::Refused, "{\"kind\":\"NotInProfile\",\"place\":\"\",\"refused\":\"tests\"}\n"),
-        ("cut tests", CONFIG, "[", Status::Refused, "{\"kind\":\"Syntax\",\"place\":\"\",\"refused\":\"tests\"}\n"),
+        (
+            "no host",
+            none,
+            EXPECTS_NOTHING,
+            Status::Done,
+            nothing_covered,
+        ),
+        (
+            "cut",
+            cut,
+            PASSING,
+            Status::Refused,
+            "{\"kind\":\"Syntax\",\"place\":\"\",\"refused\":\"config\"}\n",
+        ),
+        (
+            "twice",
+            twice,
+            PASSING,
+            Status::Refused,
+            "{\"kind\":\"NotInProfile\",\"place\":\"\",\"refused\":\"config\"}\n",
+        ),
+        (
+            "bad tests",
+            CONFIG,
+            "{\"tests\":[{}]}",
+            Status::Refused,
+            "{\"kind\":\"NotInProfile\",\"place\":\"\",\"refused\":\"tests\"}\n",
+        ),
+        (
+            "cut tests",
+            CONFIG,
+            "[",
+            Status::Refused,
+            "{\"kind\":\"Syntax\",\"place\":\"\",\"refused\":\"tests\"}\n",
+        ),
     ];
     for (name, config, tests, status, lines) in rows {
         let (ended, bytes) = outcome(alloc, &["check", "c", "t"], config, tests, 4096)?;
@@ -133,9 +171,12 @@ fn words_that_are_no_call(rt: HostRuntime) -> Result<(), Fail> {
 /// Exact domains rank before `*` without letter case, routes go in order, and each covered route counts once.
 #[test]
 fn hosts_routes_and_coverage(rt: HostRuntime) -> Result<(), Fail> {
-    let config = "{\"virtual_hosts\":[{\"name\":\"any\",\"domains\":[\"*\"],\"routes\":[{\"match\":{\"path\":\"/x\"},\"route\":{\"cluster\":\"x\"}},{\"match\":{\"prefix\":\"/\"},\"route\":{\"cluster\":\"rest\"}},{\"match\":{\"prefix\":\"/never\"},\"route\":{\"cluster\":\"never\"}}]},{\"name\":\"own\",\"domains\":[\"A.com\"],\"routes\":[{\"match\":{\"prefix\":\"/a\"},\"route\":{\"cluster\":\"own\"}}]}]}";
-    let tests = "{\"tests\":[{\"test_name\":\"1\",\"input\":{\"authority\":\"b.com\",\"path\":\"/x?y\"},\"validate\":{\"cluster_name\":\"x\"}},{\"test_name\":\"2\",\"input\":{\"authority\":\"b.com\",\"path\":\"/x/y\"},\"validate\":{\"cluster_name\":\"rest\"}},{\"test_name\":\"3\",\"input\":{\"authority\":\"a.COM\",\"path\":\"/a\"},\"validate\":{\"cluster_name\":\"own\"}},{\"test_name\":\"4\",\"input\":{\"authority\":\"a.com\",\"path\":\"/b\"},\"validate\":{\"cluster_name\":\"\"}},{\"test_name\":\"5\",\"input\":{\"authority\":\"b.com\",\"path\":\"/never\"},\"validate\":{\"cluster_name\":\"never\"}}]}";
-    let lines = "{\"failures\":[],\"test\":\"1\",\"verdict\":\"pass\"}\n{\"failures\":[],\"test\":\"2\",\"verdict\":\"pass\"}\n{\"failures\":[],\"test\":\"3\",\"verdict\":\"pass\"}\n{\"failures\":[],\"test\":\"4\",\"verdict\":\"pass\"}\n{\"failures\":[{\"actual\":\"rest\",\"expected\":\"never\",\"field\":\"cluster_name\"}],\"test\":\"5\",\"verdict\":\"fail\"}\n{\"covered\":3,\"failed\":1,\"routes\":4,\"tests\":5}\n";
+    let config =
+        "{\"virtual_hosts\":[{\"name\":\"any\",\"domains\":[\"*\"],\"routes\":[{\"match\":{\"path\":\"/x\"},\"route\":{\"cluster\":\"x\"}},{\"match\":{\"prefix\":\"/\"},\"route\":{\"cluster\":\"rest\"}},{\"match\":{\"prefix\":\"/never\"},\"route\":{\"cluster\":\"never\"}}]},{\"name\":\"own\",\"domains\":[\"A.com\"],\"routes\":[{\"match\":{\"prefix\":\"/a\"},\"route\":{\"cluster\":\"own\"}}]}]}";
+    let tests =
+        "{\"tests\":[{\"test_name\":\"1\",\"input\":{\"authority\":\"b.com\",\"path\":\"/x?y\"},\"validate\":{\"cluster_name\":\"x\"}},{\"test_name\":\"2\",\"input\":{\"authority\":\"b.com\",\"path\":\"/x/y\"},\"validate\":{\"cluster_name\":\"rest\"}},{\"test_name\":\"3\",\"input\":{\"authority\":\"a.COM\",\"path\":\"/a\"},\"validate\":{\"cluster_name\":\"own\"}},{\"test_name\":\"4\",\"input\":{\"authority\":\"a.com\",\"path\":\"/b\"},\"validate\":{\"cluster_name\":\"\"}},{\"test_name\":\"5\",\"input\":{\"authority\":\"b.com\",\"path\":\"/never\"},\"validate\":{\"cluster_name\":\"never\"}}]}";
+    let lines =
+        "{\"failures\":[],\"test\":\"1\",\"verdict\":\"pass\"}\n{\"failures\":[],\"test\":\"2\",\"verdict\":\"pass\"}\n{\"failures\":[],\"test\":\"3\",\"verdict\":\"pass\"}\n{\"failures\":[],\"test\":\"4\",\"verdict\":\"pass\"}\n{\"failures\":[{\"actual\":\"rest\",\"expected\":\"never\",\"field\":\"cluster_name\"}],\"test\":\"5\",\"verdict\":\"fail\"}\n{\"covered\":3,\"failed\":1,\"routes\":4,\"tests\":5}\n";
     let (status, bytes) = outcome(rt.alloc(), &["check", "c", "t"], config, tests, 4096)?;
     assert_eq!(rt; bytes.as_slice(), lines.as_bytes());
     assert!(rt; status == Status::TestsFailed);

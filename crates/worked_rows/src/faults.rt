@@ -3,7 +3,7 @@ ghost use Rattle.std.specs.Prelude.{◌≡◌, [], ◌∷◌, List, ℕ, IfOk, I
 ghost use Rattle.outside.specs.Contents.{find, contents_of};
 ghost use Rattle.worked_rows.specs.Names.{HasBoth};
 
-use crate::cases::{CONFIG, PASSING, PASS_LINES, memory_files, memory_sink, two_files, words};
+use crate::cases::{CONFIG, PASS_LINES, PASSING, memory_files, memory_sink, two_files, words};
 use check_core::{Status, SureFiles, SureSink, run};
 use std::alloc::Global;
 use std::test::Fail;

@@ -1,6 +1,6 @@
 // The public calls below the top call, each once on its happy path.
 
-use crate::cases::{CONFIG, PASSING, PASS_LINES, memory_files, memory_sink, two_files};
+use crate::cases::{CONFIG, PASS_LINES, PASSING, memory_files, memory_sink, two_files};
 use cfg_types::Choice;
 use outside::{FileFail, WriteFail, read_whole, write_whole};
 use read_config::read_config;
