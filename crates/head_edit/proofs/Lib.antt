@@ -1,0 +1,3 @@
+pub mod NameValues
+pub mod MapHeads
+pub mod MapKinds

@@ -1,0 +1,3 @@
+mod Picked
+mod Ascii
+mod Firsts
