@@ -20,7 +20,11 @@ fn tables_have_both_spellings(rt: HostRuntime) {
             ("google_re2", "googleRe2"),
         ),
         (outside_of(Message::RouteMatch), 6, ("cookies", "cookies")),
-        (unbuilt_of(Message::RouteMatch), 5, ("grpc", "grpc")),
+        (
+            unbuilt_of(Message::RouteAction),
+            5,
+            ("host_rewrite_header", "hostRewriteHeader"),
+        ),
     ];
     for (table, count, last) in tables {
         assert_eq!(rt; table.len(), count);

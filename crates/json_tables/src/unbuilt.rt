@@ -65,17 +65,11 @@ fn typed_route() -> &'static [Spellings]
     ]
 }
 
-#[tactic(auto, unfolding(crate::specs::Names::safe_regex, crate::specs::Names::runtime_fraction, crate::specs::Names::headers, crate::specs::Names::query_parameters, crate::specs::Names::grpc))]
+#[tactic(auto, unfolding(crate::specs::Names::safe_regex))]
 fn route_match() -> &'static [Spellings]
     ensures { map both result.now ≡ spellings (unbuilt messages.RouteMatch) }
 {
-    &[
-        ("safe_regex", "safeRegex"),
-        ("runtime_fraction", "runtimeFraction"),
-        ("headers", "headers"),
-        ("query_parameters", "queryParameters"),
-        ("grpc", "grpc"),
-    ]
+    &[("safe_regex", "safeRegex")]
 }
 
 #[tactic(auto, unfolding(crate::specs::Names::safe_regex_match))]

@@ -1,5 +1,3 @@
-pub mod Lists
-pub mod Sizes
 pub mod Utf8
 pub mod Escape
 pub mod Named
@@ -7,3 +5,4 @@ pub mod FieldNames
 pub mod Elements
 pub mod Digits
 mod Rows
+pub mod ReadFacts

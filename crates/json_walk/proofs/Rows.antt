@@ -64,8 +64,8 @@ refused_member_beside_its_other_spelling : members_at RouteMatch [] (object (mem
 unfolding members_at scan_object scan judge allowed known once prefix path safe_regex path_separated_prefix case_sensitive runtime_fraction headers query_parameters grpc connect_matcher path_match_policy tls_context dynamic_metadata filter_state cookies
 refused_member_beside_its_other_spelling = refl
 
-unbuilt_field : members_at RouteMatch (codes "/virtual_hosts/0/routes/0/match") (object (member (codes "headers") (array no_items) (member (codes "prefix") (string (codes "/")) no_members)))
-    ≡ offence (codes "/virtual_hosts/0/routes/0/match/headers") NotInProfile
+unbuilt_field : members_at RouteMatch (codes "/virtual_hosts/0/routes/0/match") (object (member (codes "prefix") (string (codes "/")) (member (codes "safe_regex") (object no_members) no_members)))
+    ≡ offence (codes "/virtual_hosts/0/routes/0/match/safe_regex") NotInProfile
 unfolding members_at scan_object scan judge allowed known once prefix path safe_regex path_separated_prefix case_sensitive runtime_fraction headers query_parameters grpc connect_matcher path_match_policy tls_context dynamic_metadata filter_state cookies
 unbuilt_field = refl
 

@@ -1,6 +1,5 @@
 pub mod Outcome
 pub mod Bytes
-pub mod Forms
 pub mod AtTop
 pub mod Places
 pub mod Members

@@ -3,7 +3,6 @@
 
 mod alphabet;
 mod fields;
-mod form;
 mod leaves;
 mod numbers;
 mod places;
@@ -16,7 +15,6 @@ mod walk;
 
 pub use alphabet::is_authority;
 pub use fields::{Reader, alone, field, field_place, must, optional, required};
-pub use form::{one, some_text, three, two};
 pub use json_tables::Message;
 pub use leaves::{choice_of, items_of, list_of, read_list, text_of, truth_of};
 pub use numbers::{count_of, whole_of};

@@ -65,9 +65,9 @@ fn members_have_offences(rt: HostRuntime) -> Result<(), Fail> {
             Kind::NotInProfile,
         ),
         (
-            r#"{"headers":[]}"#,
+            r#"{"safeRegex":[]}"#,
             Message::RouteMatch,
-            "/x/headers",
+            "/x/safe_regex",
             Kind::NotInProfile,
         ),
         (
@@ -84,7 +84,7 @@ fn members_have_offences(rt: HostRuntime) -> Result<(), Fail> {
     }
     let read = [
         (r#"{"timeout":"1s","cluster":"a"}"#, Message::RouteAction),
-        (r#"{"headers":null,"prefix":"/"}"#, Message::RouteMatch),
+        (r#"{"safe_regex":null,"prefix":"/"}"#, Message::RouteMatch),
         (r#"{"rawValue":null}"#, Message::HeaderValue),
         ("{}", Message::Grpc),
     ];

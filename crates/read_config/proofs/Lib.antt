@@ -1,3 +1,7 @@
+pub mod Stars
 pub mod Repeated
-pub mod Placed
-pub mod BuiltForm
+pub mod LawfulDomains
+pub mod Apart
+pub mod BuiltHosts
+pub mod LawfulHosts
+pub mod LawfulConfigs

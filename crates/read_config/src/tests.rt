@@ -1,270 +1,168 @@
-// Configurations that are read, and texts that are refused, each with its kind.
+// Configurations that are read, and offences with their places.
 use crate::read_config;
-use cfg_types::{Act, Body, Domain, Forward, Host, PathRule, Route, Target};
-use json_walk::{Kind, ReadFail};
+use cfg_types::{Body, Config, Domain};
+use json_walk::{ReadFail, Refusal};
 use std::alloc::{AllocError, Global};
 use std::test::Fail;
 
-const REFUSED: Option<Kind> = Some(Kind::NotInProfile);
-
-/// Why the text is refused, or None where it is read.
-fn refusal_of(alloc: Global, text: &str) -> Result<Option<Kind>, ReadFail> {
+/// `KIND PLACE` of the offence of the text, or `read`.
+fn told(alloc: Global, text: &str) -> Result<String, AllocError> {
     match read_config(alloc, text.as_bytes()) {
-        Ok(_) => Ok(None),
-        Err(ReadFail::Refused(refusal)) => Ok(Some(refusal.kind)),
-        Err(ReadFail::OutOfMemory) => Err(ReadFail::OutOfMemory),
-    }
-}
-
-/// The text of a configuration with these hosts.
-fn with_hosts(alloc: Global, hosts: &str) -> Result<String, AllocError> {
-    format!(in alloc; "{}{hosts}{}", r#"{"virtual_hosts":["#, "]}")
-}
-
-/// A host with these domains and these routes.
-fn host(alloc: Global, domains: &str, routes: &str) -> Result<String, AllocError> {
-    format!(in alloc;
-        "{}{domains}{}{routes}{}",
-        r#"{"name":"h","domains":["#, r#"],"routes":["#, "]}"
-    )
-}
-
-/// The text of a configuration of one host with these domains and these routes.
-fn with_host(alloc: Global, domains: &str, routes: &str) -> Result<String, AllocError> {
-    let host = host(alloc, domains, routes)?;
-    with_hosts(alloc, host.as_str())
-}
-
-/// Several routes, one after the other.
-fn routes(alloc: Global, count: usize) -> Result<String, AllocError> {
-    let mut list = String::new(alloc);
-    for i in 0..count {
-        if i > 0 {
-            list.push(',')?;
+        Ok(_) => String::from_str(alloc, "read"),
+        Err(ReadFail::Refused(Refusal { place, kind })) => {
+            format!(in alloc; "{kind:?} {}", place.as_str())
         }
-        list.push_str(r#"{"match":{"prefix":"/"},"route":{"cluster":"a"}}"#)?;
-    }
-    Ok(list)
-}
-
-/// Several domains, no two of them equal.
-fn domains(alloc: Global, count: usize) -> Result<String, AllocError> {
-    let mut list = format!(in alloc; "{}", r#""d""#)?;
-    for i in 1..count {
-        let next = format!(in alloc; ",{}{i}{}", r#""d"#, '"')?;
-        list.push_str(next.as_str())?;
-    }
-    Ok(list)
-}
-
-/// The route of a host of one route.
-fn only_route(host: &Host) -> Option<&Route> {
-    match &host.body {
-        Body::List(routes) if routes.len() == 1 => routes.get(0),
-        _ => None,
+        Err(ReadFail::OutOfMemory) => String::from_str(alloc, "no memory"),
     }
 }
 
-/// The cluster that the route sends to.
-fn cluster(route: &Route) -> Option<&str> {
-    match &route.act {
-        Act::Forward(
-            Forward {
-                to: Target::Cluster(name),
-                ..
-            },
-        ) => Some(name.as_str()),
-        _ => None,
+/// The first row `KIND PLACE: TEXT` that isn't told so, where TEXT stands between the two texts.
+fn first_wrong<'r>(
+    alloc: Global,
+    rows: &'r str,
+    front: &str,
+    behind: &str,
+) -> Result<Option<&'r str>, AllocError> {
+    for row in rows.lines() {
+        let Some((want, text)) = row.split_once(": ") else {
+            return Ok(Some(row));
+        };
+        let text = format!(in alloc; "{front}{text}{behind}")?;
+        let told = told(alloc, text.as_str())?;
+        if told.as_str() != want {
+            return Ok(Some(row));
+        }
     }
+    Ok(None)
 }
+
+const CONFIGS: &str = r#"Syntax : {"virtual_hosts":[{"name":"h
+WrongKind : []
+read: {}
+WrongKind /virtual_hosts: {"virtual_hosts":7}
+Conflict /virtual_hosts: {"virtualHosts":[],"virtual_hosts":[]}
+NotInProfile /@type: {"@type":"type.googleapis.com/envoy.config.route.v3.VirtualHost"}
+read: {"@type":"type.googleapis.com/envoy.config.route.v3.RouteConfiguration","name":"r","virtual_hosts":null}
+NotInProfile /ignore_path_parameters_in_path_matching: {"ignorePathParametersInPathMatching":true}
+WrongKind /ignore_port_in_host_matching: {"ignore_port_in_host_matching":"true"}
+NotInProfile /vhds: {"vhds":{}}"#;
+
+const HOSTS: &str = r#"WrongKind /virtual_hosts/0: 7
+UnknownField /virtual_hosts/0/foo: {"name":"h","domains":["*"],"foo":1}
+UnknownField /virtual_hosts/0/a~1b~0: {"name":"h","domains":["*"],"a/b~":1}
+Missing /virtual_hosts/0/name: {"name":null,"domains":["*"]}
+BadText /virtual_hosts/0/name: {"name":"","domains":["*"]}
+Missing /virtual_hosts/0/domains: {"name":"h"}
+Missing /virtual_hosts/0/domains: {"name":"h","domains":[]}
+BadText /virtual_hosts/0/domains/1: {"name":"h","domains":["a","b*c"]}
+BadText /virtual_hosts/0/domains/0: {"name":"h","domains":[""]}
+NotInProfile /virtual_hosts/0/require_tls: {"name":"h","domains":["*"],"require_tls":"NONE"}
+NotInProfile /virtual_hosts/0/matcher: {"name":"h","domains":["*"],"matcher":{}}
+Duplicate /virtual_hosts/1/domains/0: {"name":"h","domains":["A.com"]},{"name":"g","domains":["a.com"]}
+Duplicate /virtual_hosts/0/domains/2: {"name":"h","domains":["*.b","b","*.B"]},{"name":"g","domains":["b"]}
+read: {"name":"h","domains":["*.b","b.*","b","*"]},{"name":"h","domains":["B.c"]}"#;
+
+const ROUTES: &str = r#"read: {"match":{"path":"/a b%"},"route":{"cluster":"a","timeout":"1s"}}
+NotInProfile /virtual_hosts/0/routes/0/match/cookies: {"match":{"prefix":"/","cookies":[]},"route":{"cluster":"a"}}
+Missing /virtual_hosts/0/routes/1: {"match":{"prefix":"/"},"route":{"cluster":"a"}},{"match":{"prefix":"/"}}
+Missing /virtual_hosts/0/routes/0/match: {"match":{},"route":{"cluster":"a"}}
+BadText /virtual_hosts/0/routes/0/route/cluster: {"match":{"prefix":"/"},"route":{"cluster":""}}"#;
 
 #[test]
-fn a_host_of_one_route_is_read(rt: HostRuntime) -> Result<(), Fail> {
-    let text =
-        r#"{"virtual_hosts":[{"name":"h","domains":["*"],"routes":[{"match":{"prefix":"/"},"route":{"cluster":"a"}}]}]}"#;
-    let config = read_config(rt.alloc(), text.as_bytes())?;
-    let host = config.hosts.get(0).ok_or("no host")?;
-    assert_eq!(rt; config.hosts.len(), 1);
-    assert_eq!(rt; host.name.as_str(), "h");
-    assert_eq!(rt; host.domains.len(), 1);
-    assert!(rt; matches!(host.domains.get(0), Some(Domain::Any)));
-    let route = only_route(host).ok_or("no route")?;
-    assert_eq!(rt; cluster(route).ok_or("no cluster")?, "a");
-    assert!(rt; matches!(&route.rule.path, PathRule::Prefix(value) if value.as_str() == "/"));
-    Ok(())
-}
-
-#[test]
-fn a_domain_is_read_in_lower_case(rt: HostRuntime) -> Result<(), Fail> {
-    let text = with_host(rt.alloc(), r#""wWw.X-y_1.com:80""#, "")?;
-    let config = read_config(rt.alloc(), text.as_bytes())?;
-    let host = config.hosts.get(0).ok_or("no host")?;
-    assert!(rt;
-        matches!(host.domains.get(0), Some(Domain::Exact(name)) if name.as_str() == "www.x-y_1.com:80")
+fn offences_have_places(rt: HostRuntime) -> Result<(), Fail> {
+    let alloc = rt.alloc();
+    let host = r#"{"virtual_hosts":[{"name":"h","domains":["*"],"routes":["#;
+    assert_eq!(rt; first_wrong(alloc, CONFIGS, "", "")?, None);
+    assert_eq!(rt;
+        first_wrong(alloc, HOSTS, r#"{"virtual_hosts":["#, "]}")?,
+        None
     );
+    assert_eq!(rt; first_wrong(alloc, ROUTES, host, "]}]}")?, None);
     Ok(())
 }
 
+const WHOLE: &str = r#"{"name":"r","ignore_port_in_host_matching":true,"virtual_hosts":[{"name":"h",
+"domains":["A.Com:80","*-B","c.*","*"],"routes":[{"match":{"prefix":"/"},"route":{"cluster":"a"}}]}]}"#;
+
+/// The domain with its kind.
+fn form_of(alloc: Global, domain: &Domain) -> Result<String, AllocError> {
+    match domain {
+        Domain::Exact(name) => format!(in alloc; "exact {}", name.as_str()),
+        Domain::Suffix(name) => format!(in alloc; "suffix {}", name.as_str()),
+        Domain::Prefix(name) => format!(in alloc; "prefix {}", name.as_str()),
+        Domain::Any => String::from_str(alloc, "any"),
+    }
+}
+
 #[test]
-fn whole_texts(rt: HostRuntime) -> Result<(), Fail> {
-    for (text, want) in [
-        (r#"{"virtual_hosts":[]}"#, None),
-        ("", Some(Kind::Syntax)),
-        (r#"{"virtual_hosts":[{"name":"h"#, Some(Kind::Syntax)),
-        (r#"[]"#, REFUSED),
-        (r#"{}"#, REFUSED),
-        (r#"{"virtual_hosts":null}"#, REFUSED),
-        (r#"{"virtual_hosts":[],"name":"x"}"#, REFUSED),
-        (r#"{"virtual_hosts":[],"name":null}"#, REFUSED),
+fn a_configuration_is_read(rt: HostRuntime) -> Result<(), Fail> {
+    let alloc = rt.alloc();
+    let config = read_config(alloc, WHOLE.as_bytes())?;
+    let Config {
+        name,
+        hosts,
+        specific_wins,
+        ignore_port,
+        ..
+    } = &config;
+    assert_eq!(rt; name.as_str(), "r");
+    assert!(rt; *ignore_port && !*specific_wins);
+    let host = hosts.get(0).ok_or("no host")?;
+    let want = "exact a.com:80 suffix -b prefix c. any ";
+    let mut forms = String::new(alloc);
+    for domain in host.domains.as_slice() {
+        let form = form_of(alloc, domain)?;
+        forms.push_str(form.as_str())?;
+        forms.push(' ')?;
+    }
+    assert_eq!(rt; forms.as_str(), want);
+    assert!(rt; matches!(&host.body, Body::List(routes) if routes.len() == 1));
+    Ok(())
+}
+
+/// What is told of a host with so many domains and so many routes.
+fn told_of_counts(alloc: Global, domains: usize, routes: usize) -> Result<String, AllocError> {
+    let mut text = String::from_str(alloc, r#"{"virtual_hosts":[{"name":"h","domains":["*""#)?;
+    for number in 1..domains {
+        let domain = format!(in alloc; ",{}{number}{}", '"', '"')?;
+        text.push_str(domain.as_str())?;
+    }
+    text.push_str(r#"],"routes":["#)?;
+    for number in 0..routes {
+        text.push_str(if number > 0 { "," } else { "" })?;
+        text.push_str(r#"{"match":{"prefix":"/"},"route":{"cluster":"a"}}"#)?;
+    }
+    text.push_str("]}]}")?;
+    told(alloc, text.as_str())
+}
+
+#[test]
+fn domains_and_routes_are_limited(rt: HostRuntime) -> Result<(), Fail> {
+    for (domains, routes, want) in [
+        (4_000, 1_000, "read"),
+        (4_001, 1_000, "TooMany /virtual_hosts"),
+        (1, 1_001, "TooMany /virtual_hosts/0/routes"),
     ] {
-        assert_eq!(rt; refusal_of(rt.alloc(), text)?, want, "{text}");
+        let told = told_of_counts(rt.alloc(), domains, routes)?;
+        assert_eq!(rt; told.as_str(), want, "{domains} {routes}");
     }
     Ok(())
 }
 
 #[test]
-fn hosts_of_a_configuration(rt: HostRuntime) -> Result<(), Fail> {
-    for (hosts, want) in [
-        (
-            r#"{"name":"h","domains":["a"],"routes":[]},{"name":"h","domains":["*","b"],"routes":[]}"#,
-            None,
-        ),
-        (
-            r#"{"name":"h","domains":["A.com"],"routes":[]},{"name":"g","domains":["a.com"],"routes":[]}"#,
-            REFUSED,
-        ),
-        (r#"{"name":"h","domains":["*","*"],"routes":[]}"#, REFUSED),
-        (r#"{"name":"","domains":["*"],"routes":[]}"#, REFUSED),
-        (r#"{"name":"h","domains":[],"routes":[]}"#, REFUSED),
-        (r#"{"name":"h","domains":[""],"routes":[]}"#, REFUSED),
-        (r#"{"name":"h","domains":["*.com"],"routes":[]}"#, REFUSED),
-        (r#"{"name":"h","domains":["*"]}"#, REFUSED),
-        (r#"{"name":"h","domains":["*"],"routes":null}"#, REFUSED),
-        (
-            r#"{"name":"h","domains":["*"],"routes":[],"cors":null}"#,
-            REFUSED,
-        ),
-        (r#"null"#, REFUSED),
+fn a_domain_of_more_than_1024_bytes_is_too_many(rt: HostRuntime) -> Result<(), Fail> {
+    let alloc = rt.alloc();
+    for (bytes, want) in [
+        (1_024, "read"),
+        (1_025, "TooMany /virtual_hosts/0/domains/0"),
     ] {
-        let text = with_hosts(rt.alloc(), hosts)?;
-        assert_eq!(rt; refusal_of(rt.alloc(), text.as_str())?, want, "{hosts}");
-    }
-    Ok(())
-}
-
-#[test]
-fn routes_of_a_host(rt: HostRuntime) -> Result<(), Fail> {
-    for (route, want) in [
-        (
-            r#"{"match":{"path":"/a b%"},"route":{"cluster":"c"}}"#,
-            None,
-        ),
-        (
-            r#"{"match":{"prefix":"/?"},"route":{"cluster":"c"}}"#,
-            REFUSED,
-        ),
-        (
-            r#"{"match":{"path":"/#"},"route":{"cluster":"c"}}"#,
-            REFUSED,
-        ),
-        (
-            r#"{"match":{"prefix":"/","path":"/"},"route":{"cluster":"c"}}"#,
-            REFUSED,
-        ),
-        (
-            r#"{"match":{"prefix":"/","path":null},"route":{"cluster":"c"}}"#,
-            REFUSED,
-        ),
-        (r#"{"match":{},"route":{"cluster":"c"}}"#, REFUSED),
-        (
-            r#"{"match":{"prefix":"/"},"route":{"cluster":""}}"#,
-            REFUSED,
-        ),
-        (
-            r#"{"match":{"prefix":"/"},"route":{"cluster":"c"},"name":"r"}"#,
-            REFUSED,
-        ),
-    ] {
-        let text = with_host(rt.alloc(), r#""*""#, route)?;
-        assert_eq!(rt; refusal_of(rt.alloc(), text.as_str())?, want, "{route}");
-    }
-    Ok(())
-}
-
-#[test]
-fn lengths_of_texts(rt: HostRuntime) -> Result<(), Fail> {
-    for (bytes, want) in [(4_096, None), (4_097, REFUSED)] {
-        let letters = "a".repeat(rt.alloc(), bytes)?;
-        let route = format!(in rt.alloc();
-            "{}{letters}{}",
-            r#"{"match":{"prefix":""#, r#""},"route":{"cluster":"a"}}"#
+        let name = "a".repeat(alloc, bytes)?;
+        let text = format!(in alloc;
+            "{}{name}{}",
+            r#"{"virtual_hosts":[{"name":"h","domains":[""#, r#""]}]}"#
         )?;
-        let text = with_host(rt.alloc(), r#""*""#, route.as_str())?;
-        assert_eq!(rt;
-            refusal_of(rt.alloc(), text.as_str())?,
-            want,
-            "a path of {bytes} bytes"
-        );
-    }
-    for (bytes, want) in [(1_024, None), (1_025, REFUSED)] {
-        let letters = "a".repeat(rt.alloc(), bytes)?;
-        let domain = format!(in rt.alloc(); "{}{letters}{}", '"', '"')?;
-        let text = with_host(rt.alloc(), domain.as_str(), "")?;
-        assert_eq!(rt;
-            refusal_of(rt.alloc(), text.as_str())?,
-            want,
-            "a domain of {bytes} bytes"
-        );
-    }
-    Ok(())
-}
-
-#[test]
-fn counts_of_routes_and_domains(rt: HostRuntime) -> Result<(), Fail> {
-    for (count, want) in [(1_000, None), (1_001, REFUSED)] {
-        let routes = routes(rt.alloc(), count)?;
-        let text = with_host(rt.alloc(), r#""*""#, routes.as_str())?;
-        assert_eq!(rt;
-            refusal_of(rt.alloc(), text.as_str())?,
-            want,
-            "{count} routes in a host"
-        );
-    }
-    for (count, want) in [(4_000, None), (4_001, REFUSED)] {
-        let domains = domains(rt.alloc(), count)?;
-        let text = with_host(rt.alloc(), domains.as_str(), "")?;
-        assert_eq!(rt;
-            refusal_of(rt.alloc(), text.as_str())?,
-            want,
-            "{count} domains"
-        );
-    }
-    Ok(())
-}
-
-#[test]
-fn routes_of_all_hosts(rt: HostRuntime) -> Result<(), Fail> {
-    let thousand = routes(rt.alloc(), 1_000)?;
-    for (last, want) in [
-        ("", None),
-        (
-            r#"{"match":{"prefix":"/"},"route":{"cluster":"a"}}"#,
-            REFUSED,
-        ),
-    ] {
-        let mut hosts = host(rt.alloc(), r#""*""#, last)?;
-        for i in 0..10 {
-            let domain = format!(in rt.alloc(); "{}{i}{}", r#""d"#, '"')?;
-            let full = host(rt.alloc(), domain.as_str(), thousand.as_str())?;
-            hosts.push(',')?;
-            hosts.push_str(full.as_str())?;
-        }
-        let text = with_hosts(rt.alloc(), hosts.as_str())?;
-        assert_eq!(rt;
-            refusal_of(rt.alloc(), text.as_str())?,
-            want,
-            "10,000 routes and {last}"
-        );
+        let told = told(alloc, text.as_str())?;
+        assert_eq!(rt; told.as_str(), want, "{bytes} bytes");
     }
     Ok(())
 }

@@ -57,8 +57,8 @@ fn routes_have_offences(rt: HostRuntime) -> Result<(), Fail> {
             Kind::BadText,
         ),
         (
-            r#"{"prefix":"/","headers":[]}"#,
-            "/m/headers",
+            r#"{"prefix":"/","safe_regex":{}}"#,
+            "/m/safe_regex",
             Kind::NotInProfile,
         ),
         (

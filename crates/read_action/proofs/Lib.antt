@@ -1,0 +1,4 @@
+pub mod HeaderLists
+pub mod Weights
+mod Rows
+pub mod LawfulRoutes

@@ -1,0 +1,5 @@
+pub mod Edits
+pub mod Clusters
+pub mod Forwards
+pub mod Redirects
+pub mod Routes
