@@ -5,6 +5,7 @@ mod authority;
 mod domains;
 mod hosts;
 
+pub use authority::host_text;
 pub use hosts::Hosts;
 
 #[cfg(test)]

@@ -1,0 +1,4 @@
+pub mod HeadFacts
+pub mod InputFacts
+pub mod TestFacts
+mod Rows

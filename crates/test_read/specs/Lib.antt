@@ -1,2 +1,5 @@
-pub mod FirstForm
-pub mod Asking
+pub mod Headers
+pub mod Inputs
+pub mod Validation
+pub mod Tests
+pub mod Lawful

@@ -1,29 +1,34 @@
 //! Reads the tests of a test file.
 #![tactic(auto)]
 
-mod form;
+mod expectation;
+mod file;
+mod header;
+mod input;
 mod request;
 mod test;
 #[cfg(test)]
 mod tests;
 
+ghost use Rattle.std.specs.Prelude.{All, IfOk};
 ghost use Rattle.json_walk.specs.Outcome.{Gives};
-ghost use Rattle.test_read.specs.FirstForm.{tests_of};
+ghost use Rattle.test_read.specs.Tests.{tests_of};
+ghost use Rattle.test_read.specs.Lawful.{IsLawfulTest};
 
-use json_walk::{Kind, ReadFail, read_value, refused};
+use crate::file::test_file;
+use json_walk::{ReadFail, Text, read_value};
 use sqlite_items::Items;
 use std::alloc::Global;
-pub use test::Test;
+pub use test::{Expect, Test};
 
-/// The tests that the bytes stand for, or their first offence: `Syntax` where they are no JSON, `NotInProfile` where the JSON isn't of
-/// the first form, each at the empty place.
-#[tactic(auto, unfolding(crate::specs::FirstForm::tests_of))]
+/// The tests that the bytes stand for, or their first offence: `Syntax` at the empty place where they are no JSON, else the
+/// first in the order of the messages' tables. Each test is lawful. Takes memory for the JSON value and the tests.
+#[tactic(auto, using(crate::proofs::TestFacts::of_file_given), unfolding(crate::specs::Tests::tests_of))]
 pub fn read_tests(alloc: Global, bytes: &[u8]) -> Result<Items<Test>, ReadFail>
-    ensures { Gives (λ tests. tests) result (tests_of bytes.now) }
+    ensures read { Gives (λ ts. ts) result (tests_of bytes.now) }
+    ensures lawful { IfOk result (λ ts. All IsLawfulTest ts) }
 {
     let value = read_value(alloc, bytes)?;
-    match form::tests_form(alloc, &value)? {
-        Some(tests) => Ok(tests),
-        None => Err(refused(alloc, Kind::NotInProfile)),
-    }
+    let place = Text::of(alloc, "")?;
+    test_file(alloc, &value, &place)
 }

@@ -1,0 +1,37 @@
+-- What a test expects, as its row of the table: the fields in order, then that there is one.
+use Rattle.std.specs.Prelude.{ℕ, List, [], length, Bool, ◌&&◌, ◌==◌, is_none, if◌then◌else◌, None, Ok}
+use Rattle.json_tables.specs.declared.message.Message.TheVariants.{Validate}
+use Rattle.json_tables.specs.Names as name
+use Rattle.json_walk.specs.declared.refusal.Kind.TheVariants.{Missing}
+use Rattle.json_walk.specs.Outcome.{Outcome, offence, ◌>>=◌}
+use Rattle.json_walk.specs.Members.{members_at}
+use Rattle.json_walk.specs.Fields.{Reading, optional}
+use Rattle.json_walk.specs.Leaves.{text}
+use Rattle.test_read.specs.declared.test.Expect.{Expect}
+
+-- neither a text nor a rule on a header is expected
+unfoldable pub expects_nothing : Expect → Bool
+expects_nothing e =
+    is_none e.cluster_name && is_none e.virtual_cluster_name && is_none e.virtual_host_name && is_none e.host_rewrite && is_none e.path_rewrite && is_none e.path_redirect
+    && length e.request_header_matches == 0 && length e.response_header_matches == 0
+
+-- something has to be expected
+unfoldable pub expecting : List ℕ → Expect → Outcome Expect
+expecting p e = if expects_nothing e then offence p Missing else Ok e
+
+-- The other fields aren't built yet: they are refused among the members, so they are absent here. Each is read here once it is built.
+unfoldable pub validate : Reading Expect
+validate p d = do
+  _ ← members_at Validate p d
+  cluster ← optional p d name.cluster_name text
+  host ← optional p d name.virtual_host_name text
+  expecting p (record {
+    cluster_name = cluster;
+    virtual_cluster_name = None;
+    virtual_host_name = host;
+    host_rewrite = None;
+    path_rewrite = None;
+    path_redirect = None;
+    request_header_matches = [];
+    response_header_matches = [];
+  })
