@@ -1,2 +1,5 @@
+pub mod Accepted
+pub mod Chosen
 pub mod Firsts
-pub mod Plain
+pub mod Gathered
+pub mod Anywhere

@@ -1,1 +1,4 @@
 pub mod Starts
+pub mod Tests
+pub mod Within
+pub mod Anywhere

@@ -1,56 +1,79 @@
-// The rules of routes, against the path of a request.
-ghost use Rattle.std.specs.Prelude.{◌≡◌, ◌==◌, ◌<◌, ◌≤◌, IfSome, IsTrue, false, length};
-ghost use Rattle.std.specs.List.{position_from, position_or_len, list_all};
-ghost use Rattle.text_base.specs.Seen.{path_of};
-ghost use Rattle.cfg_types.specs.PathRules.{path_holds as holds};
-ghost use Rattle.cfg_types.specs.Built.{is_text_path, is_built_route};
+// The rules of a configuration's routes as a test of these.
+ghost use Rattle.std.specs.Prelude.{◌≡◌, ◌≤◌, ◌++◌, ℕ, length, map, IfOk, OnOk, IsTrue};
+ghost use Rattle.cfg_types.specs.Built.{is_built};
+ghost use Rattle.route_scan.specs.Tests.{AreTestsOf, accepted_by, most_room, rules_of, route_rules};
 
-use cfg_types::{PathRule, Route};
+use crate::Trial;
+use crate::starts::listed;
+use cfg_types::{Config, Route};
+use req_model::Request;
+use route_match::RouteTest;
+use rx_auto::Scratch;
+use std::alloc::Global;
+use text_base::OutOfMemory;
 
-/// Where the byte first stands, or the length.
-fn place_of(text: &[u8], byte: u8) -> usize
-    ensures place { result ≡ position_or_len (λ b. b == byte) text.now }
-    ensures within { result ≤ length text.now }
-{
-    for (at, b) in text.iter().enumerate() {
-        if *b == byte {
-            return at;
-        }
-    }
-    text.len()
+/// The tests of routes, in route order, at a request. A route is accepted where its test holds; `tried` counts the
+/// tests that were asked.
+#[derive(Drop)]
+pub struct Rules<'a> {
+    pub tests: &'a [RouteTest],
+    pub request: &'a Request,
+    pub scratch: &'a mut Scratch,
+    pub tried: u64,
+    ghost roomy: { most_room tests.now ≤ scratch.now },
 }
 
-/// The target before its first `?`.
-pub fn path_part(target: &[u8]) -> &[u8]
-    ensures { result.now ≡ path_of target.now }
-{
-    let end = place_of(target, b'?');
-    &target[..end]
-}
+impl<'a> Trial for Rules<'a> {
+    ghost routes = { λ s. length s.tests.now };
 
-/// Whether the path rule of a route holds on the path.
-fn path_holds(rule: &PathRule, path: &[u8]) -> bool
-    requires { IsTrue (is_text_path rule.now) }
-    ensures { result ≡ holds rule.now false path.now }
-{
-    match rule {
-        PathRule::Prefix(value) => path.starts_with(value.as_bytes()),
-        PathRule::Exact(value) => path == value.as_bytes(),
-        PathRule::Pattern(_) => unreachable!(),
-        PathRule::Separated(_) => unreachable!(),
+    ghost accepts = { λ s. accepted_by s.tests.now s.request.now };
+
+    ghost calls = { λ s. s.tried };
+
+    ghost Kept = { ℕ × ℕ };
+
+    ghost kept = { λ s. (s.scratch.ghost_name, s.scratch.now) };
+
+    fn holds(&mut self, route: u32) -> bool {
+        self.tried = self.tried.saturating_add(1);
+        self.tests[route as usize].holds(self.request, self.scratch)
     }
 }
 
-/// The place of the first route whose rule holds on the path.
-pub fn first_route(routes: &[Route], path: &[u8]) -> Option<usize>
-    requires { IsTrue (list_all is_built_route routes.now) }
-    ensures place { result ≡ position_from (λ r. holds r.rule.path false path.now) 0 routes.now }
-    ensures within { IfSome result (λ at. at < length routes.now) }
+/// The test of each route's rule, in route order, with what the configuration ignores of paths.
+pub fn rule_tests(alloc: Global, config: &Config) -> Result<Vec<RouteTest>, OutOfMemory>
+    requires { IsTrue (is_built config.now) }
+    ensures { IfOk result (λ tests. AreTestsOf config.now tests.items) }
 {
-    for (at, route) in routes.iter().enumerate() {
-        if path_holds(&route.rule.path, path) {
-            return Some(at);
-        }
+    let mut tests = Vec::new(alloc);
+    for host in config.hosts.as_slice() {
+        add_tests(alloc, &mut tests, listed(&host.body), config.ignore_params)?;
     }
-    None
+    Ok(tests)
+}
+
+/// Adds the tests of these routes.
+fn add_tests(
+    alloc: Global,
+    tests: &mut Vec<RouteTest>,
+    routes: &[Route],
+    ignore_params: bool,
+) -> Result<(), OutOfMemory>
+    ensures { OnOk result (rules_of tests.new.items ≡ rules_of tests.old.items ++ route_rules ignore_params routes.now) }
+{
+    for route in routes {
+        tests.push(RouteTest::build(alloc, &route.rule, ignore_params)?)?;
+    }
+    Ok(())
+}
+
+/// The most room that one of the tests needs. Takes no memory.
+pub fn room_of(tests: &[RouteTest]) -> u32
+    ensures { result ≡ most_room tests.now }
+{
+    let mut room = 0u32;
+    for test in tests {
+        room = room.max(test.room());
+    }
+    room
 }

@@ -1,21 +1,21 @@
 // The numbers of the first routes of hosts.
-ghost use Rattle.std.specs.Prelude.{◌≡◌, ◌<◌, ◌^◌, IfOk, IsTrue, length};
+ghost use Rattle.std.specs.Prelude.{◌≡◌, IfOk, IsTrue};
 ghost use Rattle.std.specs.List.{list_all};
 ghost use Rattle.cfg_types.specs.Order.{body_routes};
-ghost use Rattle.cfg_types.specs.Built.{is_built_host, is_built_body};
+ghost use Rattle.cfg_types.specs.Built.{is_built_host, has_list};
 ghost use Rattle.route_scan.specs.Starts.{AreStarts};
 
-use cfg_types::{Body, Host};
+use cfg_types::{Body, Host, Route};
 use std::alloc::Global;
 use text_base::OutOfMemory;
 
-/// How many routes a body lists.
-fn listed(body: &Body) -> usize
-    requires { IsTrue (is_built_body body.now) }
-    ensures { result ≡ length (body_routes body.now) }
+/// The routes that a body lists.
+pub fn listed(body: &Body) -> &[Route]
+    requires { IsTrue (has_list body.now) }
+    ensures { result.now ≡ body_routes body.now }
 {
     match body {
-        Body::List(routes) => routes.len(),
+        Body::List(routes) => routes.as_slice(),
         Body::Tree(_) => unreachable!(),
     }
 }
@@ -32,7 +32,7 @@ pub fn starts_of(alloc: Global, hosts: &[Host]) -> Result<Vec<u32>, OutOfMemory>
     let mut next = 0u32;
     for host in hosts {
         starts.push(next)?;
-        let Ok(many) = u32::try_from(listed(&host.body)) else {
+        let Ok(many) = u32::try_from(listed(&host.body).len()) else {
             return Err(OutOfMemory);
         };
         let Some(more) = next.checked_add(many) else {

@@ -1,5 +1,4 @@
-use Rattle.std.proofs.Common.{◌≡◌, ℕ, ◌<◌, ◌≤◌, ◌+◌, ◌^◌, List, ◌++◌, ◌∷◌, [], length, take, length-append, get_or, arith, rules, sym, ◌∙◌, ap}
-use Rattle.cfg_types.specs.Choices.{routes_before}
+use Rattle.std.proofs.Common.{◌≡◌, ◌∷◌, [], length, length-append, arith, rules, ap}
 use Rattle.route_scan.proofs.Firsts.{before_next, before_end, pushed}
 use Rattle.route_scan.proofs.starts.starts_of.Goals as goal
 
@@ -10,7 +9,7 @@ loop-host-preserved c =
     record {
       many = omega (arith, ap length c.in_ok-push.ensures.items, length-append c.loop-host.starts.items (c.loop-host.next ∷ []), inv.many);
       start_at = pushed c.args.hosts.now c.loop-host.starts.items c.push.new.self.items c.loop-host.host-index c.loop-host.next inv.many inv.start_at inv.next c.in_ok-push.ensures.items;
-      next = omega (arith, more, inv.next, c.in-Some.ensures, c.in-Ok.ensures, c.listed.ensures);
+      next = omega (arith, more, inv.next, c.in-Some.ensures, c.in-Ok.ensures, ap length c.listed.ensures);
       small = omega (arith, c.in-Some.ensures);
     }
 

@@ -1,0 +1,6 @@
+mod LevelValues
+mod LawfulLevels
+mod StartHeads
+mod FirstValues
+mod Owners
+mod OneRoute
