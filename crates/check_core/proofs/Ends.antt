@@ -9,7 +9,7 @@ use Rattle.run_terms.specs.Outside.{file_limit, IsFile, IsFit, IsThere, Outside,
 use Rattle.check_core.specs.Steps.{HoldsFit, StepEnded, Ended, whole, too_long, read_fault, write_fault, no_memory, is_final, Finished, finished, failed_write, no_room, IsConfig}
 use Rattle.run_terms.specs.Run.{FrontOf}
 use Rattle.run_terms.specs.Check.{Stops, is_long, is_bad}
-use Rattle.read_config.specs.FirstForm.{config_of}
+use Rattle.read_config.specs.Configs.{config_of}
 use Rattle.cfg_types.specs.declared.configs.Config.{Config}
 use Rattle.run_terms.specs.declared.status.Status.{Status}
 use Rattle.run_terms.specs.declared.status.Status.TheVariants.{TooLong}

@@ -3,8 +3,8 @@ use Rattle.std.proofs.Common.{◌≡◌, ◌≢◌, ◌⊎◌, inl, inr, ◌<◌
 use Rattle.std.proofs.lemmas.Bool.{cases_lt}
 use Rattle.outside.specs.Contents.{Contents}
 use Rattle.outside.specs.Written.{Appends, IsFront}
-use Rattle.read_config.specs.FirstForm.{config_of}
-use Rattle.test_read.specs.FirstForm.{tests_of}
+use Rattle.read_config.specs.Configs.{config_of}
+use Rattle.test_read.specs.Tests.{tests_of}
 use Rattle.test_run.specs.Lines.{check_text}
 use Rattle.test_run.specs.Verdicts.{failed}
 use Rattle.run_terms.specs.Refusals.{refusal_line}

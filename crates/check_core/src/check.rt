@@ -1,6 +1,8 @@
 // The command `check`.
-ghost use Rattle.std.specs.Prelude.{◌≡◌, ◌≤◌, List, ℕ, IsTrue};
+ghost use Rattle.std.specs.Prelude.{◌≡◌, ◌≤◌, List, ℕ, IsTrue, IfOk};
 ghost use Rattle.cfg_types.specs.Built.{is_built};
+ghost use Rattle.cfg_types.specs.Lawful.{IsLawful};
+ghost use Rattle.route_scan.specs.Tests.{AreTestsOf, most_room};
 ghost use Rattle.run_terms.specs.Outside.{outside, IsKept};
 ghost use Rattle.run_terms.specs.Run.{IsDue, AreThere, Begins};
 ghost use Rattle.run_terms.specs.Check.{Checks, verdict};
@@ -13,10 +15,12 @@ use crate::lines::write_verdicts;
 use crate::steps::{config_step, tests_step, write_status};
 use cfg_types::Config;
 use outside::{Files, Sink};
-use route_scan::Scan;
+use route_match::{RouteTest, Scratch};
+use route_scan::{Scan, room_of, rule_tests};
 use run_terms::Status;
 use std::alloc::Global;
 use test_read::Test;
+use text_base::OutOfMemory;
 
 /// Runs the tests of a test file over a configuration.
 pub fn run_check<F: Files, K: Sink>(
@@ -42,17 +46,46 @@ pub fn run_check<F: Files, K: Sink>(
     judge(alloc, &table, tests.as_slice(), out)
 }
 
+/// What routes the requests of tests: a scan of the configuration, the tests of its routes' rules, and room for these.
+#[derive(Drop)]
+struct Routing<'a> {
+    scan: Scan<'a>,
+    rules: Vec<RouteTest>,
+    scratch: Scratch,
+}
+
+fn ready(alloc: Global, config: &Config) -> Result<Routing<'_>, OutOfMemory>
+    requires { IsTrue (is_built config.now) }
+    ensures same { IfOk result (λ r. r.scan ≡ config.now) }
+    ensures rules { IfOk result (λ r. AreTestsOf config.now r.rules.items) }
+    ensures room { IfOk result (λ r. most_room r.rules.items ≤ r.scratch) }
+{
+    let scan = Scan::build(alloc, config)?;
+    let rules = rule_tests(alloc, config)?;
+    let scratch = Scratch::new(alloc, room_of(&rules))?;
+    Ok(Routing {
+        scan,
+        rules,
+        scratch,
+    })
+}
+
 /// Writes the verdicts.
 fn judge<K: Sink>(alloc: Global, config: &Config, tests: &[Test], out: &mut K) -> Status
-    requires { IsTrue (is_built config.now) }
+    requires built { IsTrue (is_built config.now) }
+    requires lawful { IsLawful config.now }
     ensures text { Finished (check_text config.now tests.now) (verdict (failed config.now tests.now)) (K.written out.old) (K.written out.new) (K.faults out.old) (K.faults out.new) result }
     ensures later { K.faults out.old ≤ K.faults out.new }
 {
-    let scan = match Scan::build(alloc, config) {
-        Ok(scan) => scan,
+    let Routing {
+        scan,
+        rules,
+        mut scratch,
+    } = match ready(alloc, config) {
+        Ok(routing) => routing,
         Err(_) => return Status::NoMemory,
     };
-    match write_verdicts(alloc, config, &scan, tests, out) {
+    match write_verdicts(alloc, config, &scan, &rules, &mut scratch, tests, out) {
         Ok(failed) => {
             if failed == 0 {
                 Status::Done

@@ -1,8 +1,11 @@
 // Writes the lines of a run.
-ghost use Rattle.std.specs.Prelude.{◌≡◌, not, count_by, flat_map, IfOk, length, string_bytes};
+ghost use Rattle.std.specs.Prelude.{◌≡◌, ◌≤◌, not, count_by, flat_map, IfOk, length};
 ghost use Rattle.serde_json.specs.View.{view};
 ghost use Rattle.outside.specs.Written.{Wrote};
-ghost use Rattle.test_run.specs.Verdicts.{choice_at as choice_of_test, choices as choices_of, IsWithin, passes, failed as failed_in};
+ghost use Rattle.cfg_types.specs.Lawful.{IsLawful};
+ghost use Rattle.route_scan.specs.Tests.{AreTestsOf, most_room};
+ghost use Rattle.route_scan.specs.Within.{IsWithin};
+ghost use Rattle.test_run.specs.Verdicts.{choice_at as choice_of_test, choices as choices_of, passes, failed as failed_in};
 ghost use Rattle.test_run.specs.Lines.{test_line as line_of_test, check_text, sum_line as line_of_sums};
 ghost use Rattle.test_run.specs.Coverage.{covered as covered_by};
 ghost use Rattle.cfg_types.specs.Order.{routes as routes_of};
@@ -11,11 +14,12 @@ ghost use Rattle.run_terms.specs.Refusals.{kind_name as name_of, offset_of as of
 use cfg_types::{Choice, Config};
 use json_walk::{Kind, Refusal};
 use outside::{Sink, WriteFail, write_whole};
-use route_scan::Scan;
+use route_match::{RouteTest, Scratch};
+use route_scan::{Scan, choose_by_rules};
 use serde_json::{Value, json};
 use std::alloc::Global;
 use test_read::Test;
-use test_run::{choice_at, cluster_of, count_covered, line_of, sum_line, test_line};
+use test_run::{count_covered, line_of, sum_line, test_line, verdict};
 use text_base::OutOfMemory;
 
 fn kind_name(kind: Kind) -> &'static str
@@ -70,14 +74,31 @@ pub fn write_refusal<K: Sink>(
     let Ok(value) = refusal_value(alloc, file, refusal) else {
         return Err(WriteFail::OutOfMemory);
     };
-    let Ok(text) = line_of(alloc, &value) else {
+    let Ok(line) = line_of(alloc, &value) else {
         return Err(WriteFail::OutOfMemory);
     };
-    write_whole(out, text.as_bytes())
+    write_whole(out, &line)
 }
 
-/// Writes the line of a test that is sent there. The result says whether the test passes.
-#[tactic(auto, unfolding(test_run::specs::Lines::test_line))]
+/// The line of a test whose request has this choice, and whether it passes.
+fn judged_line(
+    alloc: Global,
+    config: &Config,
+    choice: Choice,
+    test: &Test,
+) -> Result<(Vec<u8>, bool), OutOfMemory>
+    requires choice { choice ≡ choice_of_test config.now test.now }
+    requires within { IsWithin choice (length (routes_of config.now)) }
+    requires lawful { IsLawful config.now }
+    ensures line { IfOk result (λ l. l.0.items ≡ line_of_test config.now test.now) }
+    ensures passes { IfOk result (λ l. l.1 ≡ passes config.now test.now) }
+{
+    let judged = verdict(alloc, test, config, choice)?;
+    let line = test_line(alloc, test, &judged)?;
+    Ok((line, judged.failures.is_empty()))
+}
+
+/// Writes the line of a test whose request has this choice. The result says whether the test passes.
 fn write_test<K: Sink>(
     alloc: Global,
     config: &Config,
@@ -87,15 +108,15 @@ fn write_test<K: Sink>(
 ) -> Result<bool, WriteFail>
     requires choice { choice ≡ choice_of_test config.now test.now }
     requires within { IsWithin choice (length (routes_of config.now)) }
+    requires lawful { IsLawful config.now }
     ensures line { Wrote (K.written out.old) (K.written out.new) (K.faults out.old) (K.faults out.new) (line_of_test config.now test.now) result }
     ensures passes { IfOk result (λ p. p ≡ passes config.now test.now) }
 {
-    let actual = cluster_of(config, choice);
-    let Ok(text) = test_line(alloc, test, actual) else {
+    let Ok((line, passed)) = judged_line(alloc, config, choice, test) else {
         return Err(WriteFail::OutOfMemory);
     };
-    match write_whole(out, text.as_bytes()) {
-        Ok(()) => Ok(actual == test.cluster_name.as_str()),
+    match write_whole(out, &line) {
+        Ok(()) => Ok(passed),
         Err(fail) => Err(fail),
     }
 }
@@ -107,15 +128,20 @@ struct Verdicts {
     choices: Vec<Choice>,
 }
 
-/// Writes the line of each test.
+/// Writes the line of each test. `rules` are the tests of the routes' rules, for which the scratch has room.
 fn write_tests<K: Sink>(
     alloc: Global,
     config: &Config,
     scan: &Scan<'_>,
+    rules: &[RouteTest],
+    scratch: &mut Scratch,
     tests: &[Test],
     out: &mut K,
 ) -> Result<Verdicts, WriteFail>
-    requires { scan.now ≡ config.now }
+    requires same { scan.now ≡ config.now }
+    requires lawful { IsLawful config.now }
+    requires rules { AreTestsOf config.now rules.now }
+    requires room { most_room rules.now ≤ scratch.old }
     ensures lines { Wrote (K.written out.old) (K.written out.new) (K.faults out.old) (K.faults out.new) (flat_map (line_of_test config.now) tests.now) result }
     ensures failed { IfOk result (λ v. v.failed ≡ count_by (λ t. not (passes config.now t)) tests.now) }
     ensures choices { IfOk result (λ v. v.choices.items ≡ choices_of config.now tests.now) }
@@ -123,7 +149,7 @@ fn write_tests<K: Sink>(
     let mut failed = 0;
     let mut choices = Vec::new(alloc);
     for test in tests {
-        let choice = choice_at(scan, test);
+        let choice = choose_by_rules(scan, rules, &test.request, scratch);
         match choices.push(choice) {
             Ok(()) => {}
             Err(_) => return Err(WriteFail::OutOfMemory),
@@ -140,29 +166,35 @@ fn write_tests<K: Sink>(
     Ok(Verdicts { failed, choices })
 }
 
+/// A count as 32 bits; a greater one is answered as want of memory.
+fn count_of(count: usize) -> Result<u32, OutOfMemory>
+    ensures { IfOk result (λ n. n ≡ count) }
+{
+    match u32::try_from(count) {
+        Ok(count) => Ok(count),
+        Err(_) => Err(OutOfMemory),
+    }
+}
+
 /// The line of all tests together.
 #[tactic(auto, unfolding(test_run::specs::Coverage::covered, test_run::specs::Verdicts::failed))]
-fn sum_text(
+fn sums(
     alloc: Global,
     config: &Config,
     scan: &Scan<'_>,
     tests: &[Test],
     verdicts: &Verdicts,
-) -> Result<String, OutOfMemory>
+) -> Result<Vec<u8>, OutOfMemory>
     requires same { scan.now ≡ config.now }
     requires failed { verdicts.now.failed ≡ failed_in config.now tests.now }
     requires choices { verdicts.now.choices.items ≡ choices_of config.now tests.now }
-    ensures { IfOk result (λ s. string_bytes s ≡ line_of_sums (covered_by config.now tests.now) (failed_in config.now tests.now) (length (routes_of config.now)) (length tests.now)) }
+    ensures { IfOk result (λ line. line.items ≡ line_of_sums (covered_by config.now tests.now) (failed_in config.now tests.now) (length (routes_of config.now)) (length tests.now)) }
 {
     let routes = scan.count();
     let covered = count_covered(alloc, &verdicts.choices, routes)?;
-    sum_line(
-        alloc,
-        covered,
-        verdicts.failed as u64,
-        routes as u64,
-        tests.len() as u64,
-    )
+    let failed = count_of(verdicts.failed)?;
+    let asked = count_of(tests.len())?;
+    sum_line(alloc, covered, failed, routes, asked)
 }
 
 /// Writes the lines of all tests and the sum line. The result is the number of the failed tests.
@@ -171,21 +203,26 @@ pub fn write_verdicts<K: Sink>(
     alloc: Global,
     config: &Config,
     scan: &Scan<'_>,
+    rules: &[RouteTest],
+    scratch: &mut Scratch,
     tests: &[Test],
     out: &mut K,
 ) -> Result<usize, WriteFail>
-    requires { scan.now ≡ config.now }
+    requires same { scan.now ≡ config.now }
+    requires lawful { IsLawful config.now }
+    requires rules { AreTestsOf config.now rules.now }
+    requires room { most_room rules.now ≤ scratch.old }
     ensures lines { Wrote (K.written out.old) (K.written out.new) (K.faults out.old) (K.faults out.new) (check_text config.now tests.now) result }
     ensures failed { IfOk result (λ n. n ≡ failed_in config.now tests.now) }
 {
-    let verdicts = match write_tests(alloc, config, scan, tests, out) {
+    let verdicts = match write_tests(alloc, config, scan, rules, scratch, tests, out) {
         Ok(verdicts) => verdicts,
         Err(fail) => return Err(fail),
     };
-    let Ok(text) = sum_text(alloc, config, scan, tests, &verdicts) else {
+    let Ok(line) = sums(alloc, config, scan, tests, &verdicts) else {
         return Err(WriteFail::OutOfMemory);
     };
-    match write_whole(out, text.as_bytes()) {
+    match write_whole(out, &line) {
         Ok(()) => Ok(verdicts.failed),
         Err(fail) => Err(fail),
     }

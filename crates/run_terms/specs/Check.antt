@@ -3,8 +3,8 @@ use Rattle.std.specs.Prelude.{◌≡◌, ℕ, ◌<◌, nat_lt, List, [], length,
 use Rattle.outside.specs.Contents.{Contents}
 use Rattle.cfg_types.specs.declared.configs.Config.{Config}
 use Rattle.json_walk.specs.declared.refusal.Refusal.{Refusal}
-use Rattle.read_config.specs.FirstForm.{config_of}
-use Rattle.test_read.specs.FirstForm.{tests_of}
+use Rattle.read_config.specs.Configs.{config_of}
+use Rattle.test_read.specs.Tests.{tests_of}
 use Rattle.test_read.specs.declared.test.Test.{Test}
 use Rattle.test_run.specs.Verdicts.{failed}
 use Rattle.test_run.specs.Lines.{check_text}

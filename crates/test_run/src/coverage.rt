@@ -31,9 +31,9 @@ fn count_set(flags: &[bool]) -> usize
 }
 
 /// How many of the first `routes` routes some choice is, each counted once.
-pub fn count_covered(alloc: Global, choices: &[Choice], routes: u32) -> Result<u64, OutOfMemory>
+pub fn count_covered(alloc: Global, choices: &[Choice], routes: u32) -> Result<u32, OutOfMemory>
     ensures { IfOk result (λ n. n ≡ covered_among choices.now routes) }
 {
     let flags = flags_of(alloc, choices, routes)?;
-    Ok(count_set(&flags) as u64)
+    Ok(count_set(&flags) as u32)
 }

@@ -7,4 +7,4 @@ mod verdicts;
 
 pub use coverage::count_covered;
 pub use lines::{line_of, sum_line, test_line};
-pub use verdicts::{choice_at, cluster_of};
+pub use verdicts::{Failure, Judged, verdict};

@@ -67,7 +67,7 @@ pub fn memory_sink(alloc: Global, most: usize) -> MemorySink {
 }
 
 /// The status of a run of these words over two files, and what it writes.
-fn outcome(
+pub fn outcome(
     alloc: Global,
     list: &[&str],
     config: &str,
@@ -83,14 +83,12 @@ fn outcome(
 
 /// Configurations and test files with the status and the lines that are due.
 #[test]
-fn verdicts_and_refusals(rt: HostRuntime) -> Result<(), Fail> {
+fn verdicts_and_a_refusal(rt: HostRuntime) -> Result<(), Fail> {
     let alloc = rt.alloc();
     let none = "{\"virtual_hosts\":[]}";
     let nothing_covered =
         "{\"failures\":[],\"test\":\"t\",\"verdict\":\"pass\"}\n{\"covered\":0,\"failed\":0,\"routes\":0,\"tests\":1}\n";
     let cut = "{\"virtual_hosts\":[{\"name\":\"h";
-    let twice =
-        "{\"virtual_hosts\":[{\"name\":\"g\",\"domains\":[\"A.com\"],\"routes\":[]},{\"name\":\"h\",\"domains\":[\"a.com\"],\"routes\":[]}]}";
     let rows = [
         ("passing", CONFIG, PASSING, Status::Done, PASS_LINES),
         ("failing", CONFIG, FAILING, Status::TestsFailed, FAIL_LINES),
@@ -107,27 +105,6 @@ fn verdicts_and_refusals(rt: HostRuntime) -> Result<(), Fail> {
             PASSING,
             Status::Refused,
             "{\"kind\":\"Syntax\",\"place\":\"\",\"refused\":\"config\"}\n",
-        ),
-        (
-            "twice",
-            twice,
-            PASSING,
-            Status::Refused,
-            "{\"kind\":\"NotInProfile\",\"place\":\"\",\"refused\":\"config\"}\n",
-        ),
-        (
-            "bad tests",
-            CONFIG,
-            "{\"tests\":[{}]}",
-            Status::Refused,
-            "{\"kind\":\"NotInProfile\",\"place\":\"\",\"refused\":\"tests\"}\n",
-        ),
-        (
-            "cut tests",
-            CONFIG,
-            "[",
-            Status::Refused,
-            "{\"kind\":\"Syntax\",\"place\":\"\",\"refused\":\"tests\"}\n",
         ),
     ];
     for (name, config, tests, status, lines) in rows {

@@ -1,4 +1,4 @@
-use Rattle.std.proofs.Common.{◌≡◌, ◌∙◌, sym, ap, refl, flat_map, string_bytes, List, ℕ, arith, Ok, Err, subst}
+use Rattle.std.proofs.Common.{◌≡◌, ◌∙◌, sym, ap, refl, flat_map, List, ℕ, arith, Ok, Err, subst}
 use Rattle.outside.specs.Written.{AppendsFront, Appends}
 use Rattle.test_run.specs.Lines.{test_line, check_text}
 use Rattle.test_run.specs.Verdicts.{failed}
@@ -20,9 +20,9 @@ returns-in_default-clause-lines g c = let w = c.in-Ok.ensures.lines in record {
 pub returns-in-Ok-write_whole-clause-lines : goal.returns-in-Ok-write_whole-clause-lines
 unfolding check_text failed
 returns-in-Ok-write_whole-clause-lines g c =
-    wrote_ok _ _ _ _ _ _ _ _ _ _ _ _ (c.as_bytes.ensures.value ∙ c.in-Ok-sum_text.ensures) c.in-Ok.ensures.lines c.in-Ok-write_whole.ensures
+    wrote_ok _ _ _ _ _ _ _ _ _ _ _ _ (c.deref.ensures.value ∙ c.in-Ok-sums.ensures) c.in-Ok.ensures.lines c.in-Ok-write_whole.ensures
 
 pub returns-clause-lines : goal.returns-clause-lines
 unfolding check_text failed
 returns-clause-lines g c =
-    wrote_err _ _ _ _ _ _ _ _ _ _ _ (c.as_bytes.ensures.value ∙ c.in-Ok-sum_text.ensures) c.in-Ok.ensures.lines c.in-Err-write_whole.ensures
+    wrote_err _ _ _ _ _ _ _ _ _ _ _ (c.deref.ensures.value ∙ c.in-Ok-sums.ensures) c.in-Ok.ensures.lines c.in-Err-write_whole.ensures

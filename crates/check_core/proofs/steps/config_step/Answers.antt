@@ -1,5 +1,5 @@
 use Rattle.std.proofs.Common.{rules, refl, ◌≡◌, Err, ◌≤◌, length, arith, ap, ◌∙◌, sym}
-use Rattle.read_config.specs.FirstForm.{config_of}
+use Rattle.read_config.specs.Configs.{config_of}
 use Rattle.run_terms.specs.Check.{ConfigEnds, long_config, refused_config}
 use Rattle.run_terms.specs.Outside.{file_limit}
 use Rattle.check_core.proofs.Ends.{holds_fit, read_ended, finish_ended}
