@@ -71,45 +71,65 @@ authority_of (change.Literal host) q target hs = host
 authority_of (change.FromHeader name) q target hs =
     unwrap_or (option_and_then not_empty (first_value (record q { target = target }) hs name)) q.authority
 
--- a request that route n forwards
-pub record IsForwarded (c : Config) (host : Host) (route : Route) (n : ℕ) (f : Forward) (q : Asked) (response : List Head) (r : Reply) : Type 0 where
-  pub sent : Heads
-  pub answered : Heads
-  pub request : SameHeads sent.list (forwarded_heads c host route f q)
-  pub response_edits : SameHeads answered.list (edited_response (levels c host route (share_of f.to q)) response)
-  pub is : r ≡ reply.Forward n (cluster_of f.to q) (virtual_cluster_of host.clusters q) (new_target route q)
-      (authority_of f.host q (new_target route q) (forwarded_heads c host route f q)) sent answered
-
--- a request that route n redirects
-pub record IsRedirected (c : Config) (host : Host) (route : Route) (n : ℕ) (x : Redirect) (q : Asked) (response : List Head) (r : Reply) : Type 0 where
-  pub answered : Heads
-  pub response_edits : SameHeads answered.list (edited_response (levels c host route None) response)
-  pub is : r ≡ reply.Redirect n x.code (redirect_url route x q) answered
-
--- a request that route n answers by a status
-pub record IsAnswered (c : Config) (host : Host) (route : Route) (n status : ℕ) (response : List Head) (r : Reply) : Type 0 where
-  pub answered : Heads
-  pub response_edits : SameHeads answered.list (edited_response (levels c host route None) response)
-  pub is : r ≡ reply.Direct n status answered
-
-abbrev pub IsDone : Config → Host → Route → ℕ → Act → Asked → List Head → Reply → Type 0
-IsDone c host route n (act.Forward f) q response r = IsForwarded c host route n f q response r
-IsDone c host route n (act.Redirect x) q response r = IsRedirected c host route n x q response r
-IsDone c host route n (act.Direct status) q response r = IsAnswered c host route n status response r
-
--- what the route of number n, on its host, does
-abbrev pub IsRouted : Config → Option Host → Option Route → ℕ → Asked → List Head → Reply → Type 0
-IsRouted c None route n q response r = ⊥
-IsRouted c (Some host) None n q response r = ⊥
-IsRouted c (Some host) (Some route) n q response r = IsDone c host route n route.act q response r
-
 -- the host that owns the route of number n
 abbrev pub host_of_route : Config → ℕ → Option Host
 host_of_route c n = option_and_then (slice_get c.hosts) (slice_get (route_hosts c) n)
 
--- the reply to a request with this choice, where `response` is the headers of the response before edits
+-- what route n, which acts so, does on its host
+abbrev pub reply_by : Config → Host → Route → ℕ → Act → Asked → List Head → Reply
+reply_by c host route n (act.Forward f) q response =
+    reply.Forward n (cluster_of f.to q) (virtual_cluster_of host.clusters q) (new_target route q)
+    (authority_of f.host q (new_target route q) (forwarded_heads c host route f q))
+    (record { list = forwarded_heads c host route f q })
+    (record { list = edited_response (levels c host route (share_of f.to q)) response })
+reply_by c host route n (act.Redirect x) q response =
+    reply.Redirect n x.code (redirect_url route x q) (record { list = edited_response (levels c host route None) response })
+reply_by c host route n (act.Direct status) q response =
+    reply.Direct n status (record { list = edited_response (levels c host route None) response })
+
+-- what route n does, if it and its host are there
+abbrev pub reply_at : Config → Option Host → Option Route → ℕ → Asked → List Head → Reply
+reply_at c None route n q response = reply.NoHost
+reply_at c (Some host) None n q response = reply.NoHost
+reply_at c (Some host) (Some route) n q response = reply_by c host route n route.act q response
+
+-- the reply to a request with this choice, where `response` is the headers of the response before edits; headers stand as
+-- the edits leave them
+abbrev pub reply_of : Config → Choice → Asked → List Head → Reply
+reply_of c choice.NoHost q response = reply.NoHost
+reply_of c (choice.NoRoute h) q response = reply.NoRoute h
+reply_of c (choice.Tls h) q response = reply.Tls h (tls_url q)
+reply_of c (choice.Chosen n) q response = reply_at c (host_of_route c n) (slice_get (routes c) n) n q response
+
+-- a forwarded request whose headers, and those of its response, are these but for the order between names
+pub record IsSameForward (n : ℕ) (cluster vc target authority : Bytes) (sent answered : List Head) (r : Reply) : Type 0 where
+  pub request : Heads
+  pub response : Heads
+  pub same_request : SameHeads request.list sent
+  pub same_response : SameHeads response.list answered
+  pub is : r ≡ reply.Forward n cluster vc target authority request response
+
+-- a redirect whose response has these headers but for the order between names
+pub record IsSameRedirect (n code : ℕ) (url : Bytes) (answered : List Head) (r : Reply) : Type 0 where
+  pub response : Heads
+  pub same_response : SameHeads response.list answered
+  pub is : r ≡ reply.Redirect n code url response
+
+-- a direct response that has these headers but for the order between names
+pub record IsSameDirect (n status : ℕ) (answered : List Head) (r : Reply) : Type 0 where
+  pub response : Heads
+  pub same_response : SameHeads response.list answered
+  pub is : r ≡ reply.Direct n status response
+
+-- the same reply but for the order between names of headers
+abbrev pub IsSameReply : Reply → Reply → Type 0
+IsSameReply r reply.NoHost = r ≡ reply.NoHost
+IsSameReply r (reply.NoRoute h) = r ≡ reply.NoRoute h
+IsSameReply r (reply.Tls h url) = r ≡ reply.Tls h url
+IsSameReply r (reply.Forward n cluster vc target authority sent answered) = IsSameForward n cluster vc target authority sent.list answered.list r
+IsSameReply r (reply.Redirect n code url answered) = IsSameRedirect n code url answered.list r
+IsSameReply r (reply.Direct n status answered) = IsSameDirect n status answered.list r
+
+-- the reply to a request with this choice
 abbrev pub IsReply : Config → Choice → Asked → List Head → Reply → Type 0
-IsReply c choice.NoHost q response r = r ≡ reply.NoHost
-IsReply c (choice.NoRoute h) q response r = r ≡ reply.NoRoute h
-IsReply c (choice.Tls h) q response r = r ≡ reply.Tls h (tls_url q)
-IsReply c (choice.Chosen n) q response r = IsRouted c (host_of_route c n) (slice_get (routes c) n) n q response r
+IsReply c k q response r = IsSameReply r (reply_of c k q response)

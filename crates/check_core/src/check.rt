@@ -1,5 +1,5 @@
 // The command `check`.
-ghost use Rattle.std.specs.Prelude.{◌≡◌, ◌≤◌, List, ℕ, IsTrue, IfOk};
+ghost use Rattle.std.specs.Prelude.{◌≡◌, ◌≤◌, List, ℕ, All, IsTrue, IfOk};
 ghost use Rattle.cfg_types.specs.Built.{is_built};
 ghost use Rattle.cfg_types.specs.Lawful.{IsLawful};
 ghost use Rattle.route_scan.specs.Tests.{AreTestsOf, most_room};
@@ -7,6 +7,7 @@ ghost use Rattle.run_terms.specs.Outside.{outside, IsKept};
 ghost use Rattle.run_terms.specs.Run.{IsDue, AreThere, Begins};
 ghost use Rattle.run_terms.specs.Check.{Checks, verdict};
 ghost use Rattle.run_terms.specs.Words.{check};
+ghost use Rattle.test_read.specs.Lawful.{IsLawfulTest};
 ghost use Rattle.test_run.specs.Verdicts.{failed};
 ghost use Rattle.test_run.specs.Lines.{check_text};
 ghost use Rattle.check_core.specs.Steps.{Ended, Finished};
@@ -74,6 +75,7 @@ fn ready(alloc: Global, config: &Config) -> Result<Routing<'_>, OutOfMemory>
 fn judge<K: Sink>(alloc: Global, config: &Config, tests: &[Test], out: &mut K) -> Status
     requires built { IsTrue (is_built config.now) }
     requires lawful { IsLawful config.now }
+    requires asked { All IsLawfulTest tests.now }
     ensures text { Finished (check_text config.now tests.now) (verdict (failed config.now tests.now)) (K.written out.old) (K.written out.new) (K.faults out.old) (K.faults out.new) result }
     ensures later { K.faults out.old ≤ K.faults out.new }
 {

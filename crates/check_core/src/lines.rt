@@ -1,10 +1,11 @@
 // Writes the lines of a run.
-ghost use Rattle.std.specs.Prelude.{◌≡◌, ◌≤◌, not, count_by, flat_map, IfOk, length};
+ghost use Rattle.std.specs.Prelude.{◌≡◌, ◌≤◌, not, All, count_by, flat_map, IfOk, length};
 ghost use Rattle.serde_json.specs.View.{view};
 ghost use Rattle.outside.specs.Written.{Wrote};
 ghost use Rattle.cfg_types.specs.Lawful.{IsLawful};
 ghost use Rattle.route_scan.specs.Tests.{AreTestsOf, most_room};
-ghost use Rattle.route_scan.specs.Within.{IsWithin};
+ghost use Rattle.cfg_types.specs.Conditions.{IsWithin};
+ghost use Rattle.test_read.specs.Lawful.{IsLawfulTest};
 ghost use Rattle.test_run.specs.Verdicts.{choice_at as choice_of_test, choices as choices_of, passes, failed as failed_in};
 ghost use Rattle.test_run.specs.Lines.{test_line as line_of_test, check_text, sum_line as line_of_sums};
 ghost use Rattle.test_run.specs.Coverage.{covered as covered_by};
@@ -15,7 +16,7 @@ use cfg_types::{Choice, Config};
 use json_walk::{Kind, Refusal};
 use outside::{Sink, WriteFail, write_whole};
 use route_match::{RouteTest, Scratch};
-use route_scan::{Scan, choose_by_rules};
+use route_scan::{Scan, answer, choose_by_rules};
 use serde_json::{Value, json};
 use std::alloc::Global;
 use test_read::Test;
@@ -90,10 +91,12 @@ fn judged_line(
     requires choice { choice ≡ choice_of_test config.now test.now }
     requires within { IsWithin choice (length (routes_of config.now)) }
     requires lawful { IsLawful config.now }
+    requires asked { IsLawfulTest test.now }
     ensures line { IfOk result (λ l. l.0.items ≡ line_of_test config.now test.now) }
     ensures passes { IfOk result (λ l. l.1 ≡ passes config.now test.now) }
 {
-    let judged = verdict(alloc, test, config, choice)?;
+    let answer = answer(alloc, config, choice, &test.request, &test.response)?;
+    let judged = verdict(alloc, test, config, &answer)?;
     let line = test_line(alloc, test, &judged)?;
     Ok((line, judged.failures.is_empty()))
 }
@@ -109,6 +112,7 @@ fn write_test<K: Sink>(
     requires choice { choice ≡ choice_of_test config.now test.now }
     requires within { IsWithin choice (length (routes_of config.now)) }
     requires lawful { IsLawful config.now }
+    requires asked { IsLawfulTest test.now }
     ensures line { Wrote (K.written out.old) (K.written out.new) (K.faults out.old) (K.faults out.new) (line_of_test config.now test.now) result }
     ensures passes { IfOk result (λ p. p ≡ passes config.now test.now) }
 {
@@ -142,6 +146,7 @@ fn write_tests<K: Sink>(
     requires lawful { IsLawful config.now }
     requires rules { AreTestsOf config.now rules.now }
     requires room { most_room rules.now ≤ scratch.old }
+    requires asked { All IsLawfulTest tests.now }
     ensures lines { Wrote (K.written out.old) (K.written out.new) (K.faults out.old) (K.faults out.new) (flat_map (line_of_test config.now) tests.now) result }
     ensures failed { IfOk result (λ v. v.failed ≡ count_by (λ t. not (passes config.now t)) tests.now) }
     ensures choices { IfOk result (λ v. v.choices.items ≡ choices_of config.now tests.now) }
@@ -212,6 +217,7 @@ pub fn write_verdicts<K: Sink>(
     requires lawful { IsLawful config.now }
     requires rules { AreTestsOf config.now rules.now }
     requires room { most_room rules.now ≤ scratch.old }
+    requires asked { All IsLawfulTest tests.now }
     ensures lines { Wrote (K.written out.old) (K.written out.new) (K.faults out.old) (K.faults out.new) (check_text config.now tests.now) result }
     ensures failed { IfOk result (λ n. n ≡ failed_in config.now tests.now) }
 {

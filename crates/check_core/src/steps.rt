@@ -1,7 +1,8 @@
 // The steps of a run. An `Err` of a step has ended the run: what is due is written.
-ghost use Rattle.std.specs.Prelude.{◌≡◌, ◌≤◌, List, ℕ, IsTrue, IfOk, OnOk, IfErr};
+ghost use Rattle.std.specs.Prelude.{◌≡◌, ◌≤◌, List, ℕ, All, IsTrue, IfOk, OnOk, IfErr};
 ghost use Rattle.cfg_types.specs.Built.{is_built};
 ghost use Rattle.cfg_types.specs.Lawful.{IsLawful};
+ghost use Rattle.test_read.specs.Lawful.{IsLawfulTest};
 ghost use Rattle.run_terms.specs.Outside.{outside, IsKept};
 ghost use Rattle.run_terms.specs.Check.{ConfigEnds, TestsEnd};
 ghost use Rattle.run_terms.specs.Refusals.{refusal_line};
@@ -90,6 +91,7 @@ pub fn tests_step<F: Files, K: Sink>(
 ) -> Result<Items<Test>, Status>
     requires { IsTrue (F.admits files.old name.now) }
     ensures ok { IfOk result (AreTests (F.told files.old) name.now) }
+    ensures lawful { IfOk result (All IsLawfulTest) }
     ensures same { OnOk result (outside (F.told files.new) (K.written out.new) (F.faults files.new) (K.faults out.new) ≡ outside (F.told files.old) (K.written out.old) (F.faults files.old) (K.faults out.old)) }
     ensures names { (other : List ℕ) → F.admits files.new other ≡ F.admits files.old other }
     ensures kept { IsKept (outside (F.told files.old) (K.written out.old) (F.faults files.old) (K.faults out.old)) (outside (F.told files.new) (K.written out.new) (F.faults files.new) (K.faults out.new)) }

@@ -1,5 +1,5 @@
 mod LevelValues
-mod LawfulLevels
+pub mod LawfulLevels
 mod StartHeads
 mod FirstValues
 mod Owners

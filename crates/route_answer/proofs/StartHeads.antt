@@ -11,7 +11,7 @@ use Rattle.text_base.specs.Heads.{proto_head, internal_heads, heads, SameHeads}
 use Rattle.head_edit.specs.Maps.{is_map_head}
 use Rattle.head_edit.proofs.MapKinds.{map_heads-from_headers}
 use Rattle.head_edit.proofs.NameValues.{values-append}
-use Rattle.route_answer.specs.Conditions.{AreFewHeads}
+use Rattle.cfg_types.specs.Conditions.{AreFewHeads}
 
 pub proto_fits : (https : Bool) → is_map_head (proto_head https) ≡ true
 proto_fits true = refl

@@ -7,7 +7,7 @@ ghost use Rattle.cfg_types.specs.Redirects.{proto};
 ghost use Rattle.cfg_types.specs.HeaderEdits.{edited_request, edited_response};
 ghost use Rattle.cfg_types.specs.Lawful.{IsLawfulPair};
 ghost use Rattle.head_edit.specs.Maps.{heads_of};
-ghost use Rattle.route_answer.specs.Conditions.{AreFewHeads};
+ghost use Rattle.cfg_types.specs.Conditions.{AreFewHeads};
 ghost use Rattle.route_answer.specs.Levels.{pairs_of};
 
 use cfg_types::EditPair;

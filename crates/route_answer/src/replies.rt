@@ -4,8 +4,8 @@ ghost use Rattle.std.specs.List.{list_all};
 ghost use Rattle.text_base.specs.Requests.{is_header};
 ghost use Rattle.cfg_types.specs.Order.{routes};
 ghost use Rattle.cfg_types.specs.Lawful.{IsLawful, IsLawfulPair};
-ghost use Rattle.cfg_types.specs.Answers.{IsReply, IsRouted, host_of_route};
-ghost use Rattle.route_answer.specs.Conditions.{AreFewHeads, IsWithin};
+ghost use Rattle.cfg_types.specs.Answers.{IsReply, IsSameReply, reply_at, host_of_route};
+ghost use Rattle.cfg_types.specs.Conditions.{AreFewHeads, IsWithin};
 ghost use Rattle.route_answer.specs.Levels.{pairs_of};
 ghost use Rattle.route_answer.specs.Forwarded.{IsSentOn};
 
@@ -88,7 +88,7 @@ fn routed(
     requires request { AreFewHeads request.now.headers }
     requires response { AreFewHeads response.now.list }
     requires valid { list_all is_header response.now.list ≡ true }
-    ensures { IfOk result (λ r. IsRouted config.now (host_of_route config.now number) (slice_get (routes config.now) number) number request.now response.now.list r) }
+    ensures { IfOk result (λ r. IsSameReply r (reply_at config.now (host_of_route config.now number) (slice_get (routes config.now) number) number request.now response.now.list)) }
 {
     let route = config.route_at(number);
     let host = host_at(config, number);

@@ -5,7 +5,7 @@ ghost use Rattle.text_base.specs.Alphabets.{is_printed};
 ghost use Rattle.cfg_types.specs.Lawful.{AreLawfulEdits, IsLawfulPair, IsLawfulAct, IsLawfulForward, IsLawfulRoute, IsLawfulHost, IsLawfulCluster, IsLawfulShare, IsLawfulTarget, IsLawfulHostChange, IsLawful};
 ghost use Rattle.cfg_types.specs.declared.configs.Domain.TheVariants as domain;
 ghost use Rattle.cfg_types.specs.declared.configs.Body.TheVariants as body;
-ghost use Rattle.route_answer.specs.Conditions.{AreFewHeads};
+ghost use Rattle.cfg_types.specs.Conditions.{AreFewHeads};
 
 use crate::{Choice, Reply, answer};
 use cfg_types::{

@@ -1,4 +1,3 @@
 pub mod Starts
 pub mod Tests
-pub mod Within
 pub mod Anywhere

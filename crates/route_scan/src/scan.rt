@@ -6,7 +6,7 @@ ghost use Rattle.cfg_types.specs.Built.{is_built};
 ghost use Rattle.host_pick.specs.Tables.{table_of};
 ghost use Rattle.route_scan.specs.Starts.{AreStarts};
 ghost use Rattle.route_scan.specs.Tests.{AreTestsOf, most_room};
-ghost use Rattle.route_scan.specs.Within.{IsWithin};
+ghost use Rattle.cfg_types.specs.Conditions.{IsWithin};
 
 use crate::starts::{listed, starts_of};
 use crate::trial::first_of;

@@ -20,7 +20,7 @@ use Rattle.json_walk.specs.Fields.{optional, required}
 use Rattle.json_walk.specs.Leaves.{text}
 use Rattle.read_match.specs.Kinds.{header_name, lowered}
 use Rattle.test_read.specs.Headers.{header_key, header_value, header, headers}
-use Rattle.test_read.specs.Lawful.{AreFewHeads}
+use Rattle.cfg_types.specs.Conditions.{AreFewHeads}
 use Rattle.json_walk.proofs.ReadFacts.{Reads, after, whatever, weaker, where_true, where_false, of_required, of_optional, of_short_list}
 
 abbrev is_low : ℕ → Bool

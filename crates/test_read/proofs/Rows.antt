@@ -47,7 +47,7 @@ nothing_expected : validate (codes "/t") (object (member (codes "clusterName") n
 unfolding validate expecting expects_nothing members_at scan_object scan judge allowed known once field optional cluster_name virtual_cluster_name virtual_host_name host_rewrite path_rewrite path_redirect request_header_matches response_header_matches
 nothing_expected = refl
 
-unbuilt_expectation : validate (codes "/t") (object (member (codes "cluster_name") (string (codes "c")) (member (codes "hostRewrite") (string (codes "h")) no_members))) ≡ offence (codes "/t/host_rewrite") NotInProfile
+unbuilt_expectation : validate (codes "/t") (object (member (codes "cluster_name") (string (codes "c")) (member (codes "virtualClusterName") (string (codes "v")) no_members))) ≡ offence (codes "/t/virtual_cluster_name") NotInProfile
 unfolding validate members_at scan_object scan judge allowed known once cluster_name virtual_cluster_name virtual_host_name host_rewrite path_rewrite path_redirect request_header_matches response_header_matches
 unbuilt_expectation = refl
 

@@ -33,8 +33,8 @@ of_expecting p e h = where_false (expects_nothing e) (Ok e) p Missing HasLawfulR
 of_validate : Reads HasLawfulRules validate
 unfolding validate
 of_validate p d =
-    whatever (members_at messages.Validate p d) _ HasLawfulRules (λ _. whatever (optional p d name.cluster_name text) _ HasLawfulRules (λ cluster. whatever (optional p d name.virtual_host_name text) _ HasLawfulRules (λ host.
-    of_expecting p _ (record { of_request = All-nil IsLawfulHeader; of_response = All-nil IsLawfulHeader }))))
+    whatever (members_at messages.Validate p d) _ HasLawfulRules (λ _. whatever (optional p d name.cluster_name text) _ HasLawfulRules (λ cluster. whatever (optional p d name.virtual_host_name text) _ HasLawfulRules (λ host. whatever (optional p d name.host_rewrite text) _ HasLawfulRules (λ authority. whatever (optional p d name.path_rewrite text) _ HasLawfulRules (λ target. whatever (optional p d name.path_redirect text) _ HasLawfulRules (λ url.
+    of_expecting p _ (record { of_request = All-nil IsLawfulHeader; of_response = All-nil IsLawfulHeader })))))))
 
 of_test : Reads IsLawfulTest test
 unfolding test

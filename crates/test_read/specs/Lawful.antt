@@ -1,15 +1,10 @@
 -- Lawful tests: the request is valid, and the headers of request and response are few and short enough to be edited.
-use Rattle.std.specs.Prelude.{◌≡◌, ◌≤◌, true, List, length, All}
+use Rattle.std.specs.Prelude.{◌≡◌, true, All}
 use Rattle.std.specs.List.{list_all}
-use Rattle.text_base.specs.Asked.{Head}
 use Rattle.text_base.specs.Requests.{is_header, is_valid}
+use Rattle.cfg_types.specs.Conditions.{AreFewHeads}
 use Rattle.cfg_types.specs.Lawful.{IsLawfulHeader}
 use Rattle.test_read.specs.declared.test.Test.{Test}
-
--- at most 1,000 headers, with names of at most 1,024 bytes
-pub record AreFewHeads (heads : List Head) : Type 0 where
-  pub few : length heads ≤ 1000
-  pub short : All (λ h. length h.0 ≤ 1024) heads
 
 -- the response's headers keep the rules of requests for headers, and the rules that are expected are lawful
 pub record IsLawfulTest (t : Test) : Type 0 where

@@ -25,13 +25,16 @@ validate p d = do
   _ ← members_at Validate p d
   cluster ← optional p d name.cluster_name text
   host ← optional p d name.virtual_host_name text
+  authority ← optional p d name.host_rewrite text
+  target ← optional p d name.path_rewrite text
+  url ← optional p d name.path_redirect text
   expecting p (record {
     cluster_name = cluster;
     virtual_cluster_name = None;
     virtual_host_name = host;
-    host_rewrite = None;
-    path_rewrite = None;
-    path_redirect = None;
+    host_rewrite = authority;
+    path_rewrite = target;
+    path_redirect = url;
     request_header_matches = [];
     response_header_matches = [];
   })

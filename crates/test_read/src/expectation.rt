@@ -48,13 +48,16 @@ impl Reader for Validate {
         let names = members(alloc, value, place, M)?;
         let cluster_name = optional(alloc, value, place, &names, M, 0, &AnyText)?;
         let virtual_host_name = optional(alloc, value, place, &names, M, 2, &AnyText)?;
+        let host_rewrite = optional(alloc, value, place, &names, M, 3, &AnyText)?;
+        let path_rewrite = optional(alloc, value, place, &names, M, 4, &AnyText)?;
+        let path_redirect = optional(alloc, value, place, &names, M, 5, &AnyText)?;
         let expect = Expect {
             cluster_name,
             virtual_cluster_name: None,
             virtual_host_name,
-            host_rewrite: None,
-            path_rewrite: None,
-            path_redirect: None,
+            host_rewrite,
+            path_rewrite,
+            path_redirect,
             request_header_matches: Items::new(alloc),
             response_header_matches: Items::new(alloc),
         };

@@ -75,7 +75,8 @@ const EXPECTATIONS: &str = r#"Missing /tests/0/validate: {}
 Missing /tests/0/validate: {"cluster_name":null}
 WrongKind /tests/0/validate: []
 WrongKind /tests/0/validate/virtual_host_name: {"virtual_host_name":1}
-NotInProfile /tests/0/validate/host_rewrite: {"cluster_name":1,"host_rewrite":"x"}
+NotInProfile /tests/0/validate/virtual_cluster_name: {"cluster_name":1,"virtual_cluster_name":"x"}
+WrongKind /tests/0/validate/path_redirect: {"path_redirect":["x"]}
 NotInProfile /tests/0/validate/request_header_matches: {"requestHeaderMatches":[]}
 UnknownField /tests/0/validate/cluster: {"cluster":"a"}
 Conflict /tests/0/validate/cluster_name: {"clusterName":null,"cluster_name":"a"}"#;
@@ -125,7 +126,7 @@ const FULL: &str = r#"{"tests":[{"testName":"é","input":{
   "authority":"x.com:80","path":"/a?b","method":"PUT","internal":true,"ssl":true,"randomValue":"18446744073709551615","runtime":"k",
   "additional_request_headers":[{"key":"X-A","value":"1 2"},{"key":"x-b"}],
   "additionalResponseHeaders":[{"value":"","key":"Server"}]},
-  "validate":{"cluster_name":"","virtualHostName":"h","hostRewrite":null}}]}"#;
+  "validate":{"cluster_name":"","virtualHostName":"h","hostRewrite":null,"path_rewrite":"/a","pathRedirect":"u"}}]}"#;
 
 /// Whether these are the headers.
 fn are_heads(heads: &[(Items<u8>, Items<u8>)], want: &[(&[u8], &[u8])]) -> bool {
@@ -170,6 +171,8 @@ fn every_field_is_read(rt: HostRuntime) -> Result<(), Fail> {
     assert!(rt; is_text(&test.expect.cluster_name, ""));
     assert!(rt; is_text(&test.expect.virtual_host_name, "h"));
     assert!(rt; test.expect.host_rewrite.is_none());
+    assert!(rt; is_text(&test.expect.path_rewrite, "/a"));
+    assert!(rt; is_text(&test.expect.path_redirect, "u"));
     Ok(())
 }
 

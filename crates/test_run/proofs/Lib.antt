@@ -1,2 +1,5 @@
 pub mod Counted
 pub mod Floats
+pub mod Ascii
+pub mod AsciiEdits
+pub mod ReplyTexts

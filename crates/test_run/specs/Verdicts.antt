@@ -1,48 +1,79 @@
 -- What the request of a test gets, and in what that differs from what the test expects.
-use Rattle.std.specs.Prelude.{ℕ, Bool, true, false, not, List, [], ◌∷◌, ◌++◌, Option, Some, None, option_map, unwrap_or, bytes_eq, if◌then◌else◌, count_by, slice_get, map}
-use Rattle.text_base.specs.Asked.{Bytes, Asked}
-use Rattle.cfg_types.specs.Order.{routes}
+use Rattle.std.specs.Prelude.{ℕ, Bool, true, false, not, List, [], ◌∷◌, ◌++◌, Option, Some, None, option_map, unwrap_or, bytes_eq, if◌then◌else◌, count_by, map}
+use Rattle.std.specs.Str.{IsUtf8}
+use Rattle.text_base.specs.Asked.{Bytes}
 use Rattle.cfg_types.specs.Choices.{choice_for}
-use Rattle.cfg_types.specs.Answers.{cluster_of, host_of_route}
+use Rattle.cfg_types.specs.Answers.{host_of_route, reply_of}
 use Rattle.cfg_types.specs.declared.configs.Config.{Config}
 use Rattle.cfg_types.specs.declared.configs.Host.{Host}
 use Rattle.cfg_types.specs.declared.answers.Choice.{Choice}
-use Rattle.cfg_types.specs.declared.answers.Choice.TheVariants as choice
-use Rattle.cfg_types.specs.declared.routes.Route.{Route}
-use Rattle.cfg_types.specs.declared.actions.Act.{Act}
-use Rattle.cfg_types.specs.declared.actions.Act.TheVariants as act
+use Rattle.cfg_types.specs.declared.answers.Reply.{Reply}
+use Rattle.cfg_types.specs.declared.answers.Reply.TheVariants as reply
 use Rattle.test_read.specs.declared.test.Test.{Test}
 use Rattle.test_run.specs.declared.verdicts.Failure.{Failure}
 use Rattle.test_run.specs.declared.verdicts.Failure.TheVariants as failure
 
--- the cluster that an action forwards a request to
-abbrev pub cluster_by : Act → Asked → Bytes
-cluster_by (act.Forward f) q = cluster_of f.to q
-cluster_by (act.Redirect r) q = []
-cluster_by (act.Direct s) q = []
+-- ---- what a reply gives for each thing that a test expects
 
 -- the cluster where the request is forwarded, else the empty text
-abbrev pub cluster_at : Config → Choice → Asked → Bytes
-cluster_at c choice.NoHost q = []
-cluster_at c (choice.Tls h) q = []
-cluster_at c (choice.NoRoute h) q = []
-cluster_at c (choice.Chosen n) q = unwrap_or (option_map (λ (r : Route). cluster_by r.act q) (slice_get (routes c) n)) []
+abbrev pub cluster_in : Reply → Bytes
+cluster_in (reply.Forward n cluster vc target authority sent answered) = cluster
+cluster_in _ = []
+
+-- the number of the route where one is chosen
+abbrev pub route_in : Reply → Option ℕ
+route_in reply.NoHost = None
+route_in (reply.NoRoute h) = None
+route_in (reply.Tls h url) = None
+route_in (reply.Forward n cluster vc target authority sent answered) = Some n
+route_in (reply.Redirect n code url answered) = Some n
+route_in (reply.Direct n status answered) = Some n
+
+abbrev pub host_name : Config → Option ℕ → Bytes
+host_name c None = []
+host_name c (Some n) = unwrap_or (option_map (λ (h : Host). h.name) (host_of_route c n)) []
 
 -- the name of the chosen host where a route is chosen, else the empty text
-abbrev pub host_at : Config → Choice → Bytes
-host_at c choice.NoHost = []
-host_at c (choice.Tls h) = []
-host_at c (choice.NoRoute h) = []
-host_at c (choice.Chosen n) = unwrap_or (option_map (λ (h : Host). h.name) (host_of_route c n)) []
+abbrev pub host_in : Config → Reply → Bytes
+host_in c r = host_name c (route_in r)
+
+-- the final host where the request is forwarded, else the empty text
+abbrev pub authority_in : Reply → Bytes
+authority_in (reply.Forward n cluster vc target authority sent answered) = authority
+authority_in _ = []
+
+-- the final target where the request is forwarded, else the empty text
+abbrev pub target_in : Reply → Bytes
+target_in (reply.Forward n cluster vc target authority sent answered) = target
+target_in _ = []
+
+-- the whole URL of a redirect, one to https too, else the empty text
+abbrev pub url_in : Reply → Bytes
+url_in (reply.Tls h url) = url
+url_in (reply.Redirect n code url answered) = url
+url_in _ = []
+
+-- what is told as bytes is text
+pub record AreTexts (r : Reply) : Type 0 where
+  pub authority : IsUtf8 (authority_in r)
+  pub target : IsUtf8 (target_in r)
+  pub url : IsUtf8 (url_in r)
+
+-- ---- failures
 
 -- an expected text is compared with the actual one; an absent one isn't
 abbrev pub text_failure : ℕ → Option Bytes → Bytes → List Failure
 text_failure field None actual = []
 text_failure field (Some expected) actual = if bytes_eq actual expected then [] else failure.Text field expected actual ∷ []
 
--- in what a test fails whose request has this choice, by the numbers of the fields
-abbrev pub failures_by : Config → Choice → Test → List Failure
-failures_by c k t = text_failure 0 t.expect.cluster_name (cluster_at c k t.request) ++ text_failure 2 t.expect.virtual_host_name (host_at c k)
+-- in what a test fails whose request gets this reply, by the numbers of the fields
+abbrev pub failures_of : Config → Reply → Test → List Failure
+failures_of c r t =
+    text_failure 0 t.expect.cluster_name (cluster_in r)
+    ++ text_failure 2 t.expect.virtual_host_name (host_in c r)
+    ++ text_failure 3 t.expect.host_rewrite (authority_in r)
+    ++ text_failure 4 t.expect.path_rewrite (target_in r)
+    ++ text_failure 5 t.expect.path_redirect (url_in r)
 
 -- where the request of a test is sent
 abbrev pub choice_at : Config → Test → Choice
@@ -51,9 +82,13 @@ choice_at c t = choice_for c t.request
 abbrev pub choices : Config → List Test → List Choice
 choices c ts = map (choice_at c) ts
 
+-- the reply to the request of a test
+abbrev pub reply_to : Config → Test → Reply
+reply_to c t = reply_of c (choice_at c t) t.request t.response.list
+
 -- in what a test fails
 abbrev pub failures : Config → Test → List Failure
-failures c t = failures_by c (choice_at c t) t
+failures c t = failures_of c (reply_to c t) t
 
 abbrev pub is_none : List Failure → Bool
 is_none [] = true

@@ -1,15 +1,13 @@
-// What the request of a test gets, and in what that differs from what the test expects.
-ghost use Rattle.std.specs.Prelude.{◌≡◌, ◌++◌, ◌≤◌, All, length, IfOk, OnOk};
-ghost use Rattle.text_base.specs.Asked.{Asked};
+// In what the reply to the request of a test differs from what the test expects.
+ghost use Rattle.std.specs.Prelude.{◌≡◌, ◌++◌, ◌<◌, ◌≤◌, All, length, IfOk, IfSome, OnOk};
+ghost use Rattle.std.specs.Str.{IsUtf8};
+ghost use Rattle.cfg_types.specs.Answers.{IsReply};
 ghost use Rattle.cfg_types.specs.Lawful.{IsLawful};
 ghost use Rattle.cfg_types.specs.Order.{routes};
-ghost use Rattle.route_scan.specs.Within.{IsWithin};
-ghost use Rattle.test_run.specs.Verdicts.{cluster_by as cluster_of_act, cluster_at as cluster_of_choice, host_at as host_of_choice, text_failure, failures_by};
+ghost use Rattle.test_run.specs.Verdicts.{choice_at, cluster_in as cluster_of_reply, route_in as route_of_reply, host_name as name_of_host, authority_in as authority_of_reply, target_in as target_of_reply, url_in as url_of_reply, text_failure, failures as failures_to, failures_of as failures_by, AreTexts};
 ghost use Rattle.test_run.specs.Lines.{IsNamed};
 
-use cfg_types::{Act, Choice, Config};
-use path_change::cluster_of;
-use req_model::Request;
+use cfg_types::{Config, Reply};
 use sqlite_items::Items;
 use std::alloc::Global;
 use test_read::Test;
@@ -35,49 +33,81 @@ pub struct Judged {
     pub failures: Items<Failure>,
 }
 
-/// The cluster that an action forwards a request to.
-fn cluster_by(alloc: Global, act: &Act, request: &Request) -> Result<Text, OutOfMemory>
-    ensures { IfOk result (λ t. t ≡ cluster_of_act act.now request.now) }
+/// The cluster where the request is forwarded, else the empty text.
+fn cluster_in(answer: &Reply) -> &str
+    ensures { result.now ≡ cluster_of_reply answer.now }
 {
-    match act {
-        Act::Forward(forward) => cluster_of(alloc, &forward.to, request),
-        Act::Redirect(_) => Text::of(alloc, ""),
-        Act::Direct { status: _ } => Text::of(alloc, ""),
+    match answer {
+        Reply::Forward { cluster, .. } => cluster.as_str(),
+        _ => "",
     }
 }
 
-/// The cluster where the request is forwarded.
-fn cluster_at(
-    alloc: Global,
-    config: &Config,
-    choice: Choice,
-    request: &Request,
-) -> Result<Text, OutOfMemory>
-    requires { IsWithin choice (length (routes config.now)) }
-    ensures { IfOk result (λ t. t ≡ cluster_of_choice config.now choice request.now) }
+/// The number of the route where one is chosen.
+fn route_in(answer: &Reply) -> Option<u32>
+    ensures { result ≡ route_of_reply answer.now }
 {
-    match choice {
-        Choice::NoHost => Text::of(alloc, ""),
-        Choice::Tls { host: _ } => Text::of(alloc, ""),
-        Choice::NoRoute { host: _ } => Text::of(alloc, ""),
-        Choice::Chosen { route } => cluster_by(alloc, &config.route_at(route).act, request),
+    match answer {
+        Reply::NoHost | Reply::NoRoute { .. } | Reply::Tls { .. } => None,
+        Reply::Forward { route, .. }
+        | Reply::Redirect { route, .. }
+        | Reply::Direct { route, .. } => Some(*route),
     }
 }
 
-/// The name of the host whose route is chosen.
-fn host_at(config: &Config, choice: Choice) -> &str
-    requires within { IsWithin choice (length (routes config.now)) }
+/// The name of the host that owns this route, if there is one.
+fn host_name(config: &Config, route: Option<u32>) -> &str
+    requires within { IfSome route (λ n. n < length (routes config.now)) }
     requires lawful { IsLawful config.now }
-    ensures { result.now ≡ host_of_choice config.now choice }
+    ensures { result.now ≡ name_of_host config.now route }
 {
-    match choice {
-        Choice::NoHost => "",
-        Choice::Tls { host: _ } => "",
-        Choice::NoRoute { host: _ } => "",
-        Choice::Chosen { route } => match config.hosts.get(config.host_of(route) as usize) {
-            Some(host) => host.name.as_str(),
-            None => "",
-        },
+    let Some(route) = route else {
+        return "";
+    };
+    match config.hosts.get(config.host_of(route) as usize) {
+        Some(host) => host.name.as_str(),
+        None => "",
+    }
+}
+
+/// The final host where the request is forwarded, else nothing.
+fn authority_in(answer: &Reply) -> &[u8]
+    ensures { result.now ≡ authority_of_reply answer.now }
+{
+    match answer {
+        Reply::Forward { authority, .. } => authority.as_slice(),
+        _ => &[],
+    }
+}
+
+/// The final target where the request is forwarded, else nothing.
+fn target_in(answer: &Reply) -> &[u8]
+    ensures { result.now ≡ target_of_reply answer.now }
+{
+    match answer {
+        Reply::Forward { target, .. } => target.as_slice(),
+        _ => &[],
+    }
+}
+
+/// The whole URL of a redirect, one to https too, else nothing.
+fn url_in(answer: &Reply) -> &[u8]
+    ensures { result.now ≡ url_of_reply answer.now }
+{
+    match answer {
+        Reply::Tls { url, .. } | Reply::Redirect { url, .. } => url.as_slice(),
+        _ => &[],
+    }
+}
+
+/// These bytes as text.
+fn text_of(bytes: &[u8]) -> &str
+    requires { IsUtf8 bytes.now }
+    ensures { result.now ≡ bytes.now }
+{
+    match str::from_utf8(bytes) {
+        Ok(text) => text,
+        Err(_) => unreachable!(),
     }
 }
 
@@ -89,7 +119,10 @@ fn compare(
     expected: &Option<Text>,
     actual: &str,
 ) -> Result<(), OutOfMemory>
-    ensures { OnOk result (failures.new ≡ failures.old ++ text_failure field expected.now actual.now) }
+    requires told { field ≤ 5 }
+    requires named { All IsNamed failures.old }
+    ensures more { OnOk result (failures.new ≡ failures.old ++ text_failure field expected.now actual.now) }
+    ensures named { OnOk result (All IsNamed failures.new) }
 {
     let Some(expected) = expected else {
         return Ok(());
@@ -104,34 +137,54 @@ fn compare(
     })
 }
 
-/// In what a test fails whose request has this choice.
-pub fn verdict(
+/// In what a test fails whose request gets this reply.
+fn failures_of(
     alloc: Global,
-    test: &Test,
     config: &Config,
-    choice: Choice,
-) -> Result<Judged, OutOfMemory>
-    requires within { IsWithin choice (length (routes config.now)) }
+    answer: &Reply,
+    test: &Test,
+) -> Result<Items<Failure>, OutOfMemory>
+    requires texts { AreTexts answer.now }
+    requires within { IfSome (route_of_reply answer.now) (λ n. n < length (routes config.now)) }
     requires lawful { IsLawful config.now }
-    ensures failures { IfOk result (λ j. j.failures ≡ failures_by config.now choice test.now) }
-    ensures named { IfOk result (λ j. All IsNamed j.failures) }
+    ensures failures { IfOk result (λ fs. fs ≡ failures_by config.now answer.now test.now) }
+    ensures named { IfOk result (λ fs. All IsNamed fs) }
 {
     let expect = &test.expect;
-    let cluster = cluster_at(alloc, config, choice, &test.request)?;
+    let host = host_name(config, route_in(answer));
+    let authority = text_of(authority_in(answer));
+    let target = text_of(target_in(answer));
+    let url = text_of(url_in(answer));
     let mut failures = Items::new(alloc);
     compare(
         alloc,
         &mut failures,
         0,
         &expect.cluster_name,
-        cluster.as_str(),
+        cluster_in(answer),
     )?;
-    compare(
-        alloc,
-        &mut failures,
-        2,
-        &expect.virtual_host_name,
-        host_at(config, choice),
-    )?;
-    Ok(Judged { failures })
+    compare(alloc, &mut failures, 2, &expect.virtual_host_name, host)?;
+    compare(alloc, &mut failures, 3, &expect.host_rewrite, authority)?;
+    compare(alloc, &mut failures, 4, &expect.path_rewrite, target)?;
+    compare(alloc, &mut failures, 5, &expect.path_redirect, url)?;
+    Ok(failures)
+}
+
+/// In what a test fails, where `answer` is the reply to its request.
+pub fn verdict(
+    alloc: Global,
+    test: &Test,
+    config: &Config,
+    answer: &Reply,
+) -> Result<Judged, OutOfMemory>
+    requires lawful { IsLawful config.now }
+    requires answer { IsReply config.now (choice_at config.now test.now) test.now.request test.now.response.list answer.now }
+    ensures failures { IfOk result (λ j. j.failures ≡ failures_to config.now test.now) }
+    ensures named { IfOk result (λ j. All IsNamed j.failures) }
+{
+    // A request is valid by its type, so what the reply makes of it is text.
+    test.request.parts();
+    Ok(Judged {
+        failures: failures_of(alloc, config, answer, test)?,
+    })
 }

@@ -2,8 +2,14 @@
 #![tactic(auto)]
 
 #[cfg(test)]
+mod answers;
+#[cfg(test)]
 mod cases;
 #[cfg(test)]
 mod faults;
 #[cfg(test)]
 mod parts;
+#[cfg(test)]
+mod refusals;
+#[cfg(test)]
+mod rules;

@@ -1,0 +1,167 @@
+// Where requests are sent: domains of hosts, and rules on paths, headers, queries, fractions and gRPC.
+use crate::cases::outcome;
+use check_core::Status;
+use std::alloc::Global;
+use std::test::Fail;
+use text_base::OutOfMemory;
+
+/// Whether the test of this input passes over the configuration, where it validates that the field is `want`.
+fn passes(
+    alloc: Global,
+    config: &str,
+    field: &str,
+    want: &str,
+    input: &str,
+) -> Result<bool, OutOfMemory> {
+    let tests = format!(in alloc;
+        "{}{input}{}{field}{}{want}{}",
+        r#"{"tests":[{"test_name":"t","input":"#, r#","validate":{""#, r#"":""#, r#""}}]}"#
+    )?;
+    let (status, _) = outcome(alloc, &["check", "c", "t"], config, tests.as_str(), 4096)?;
+    Ok(status == Status::Done)
+}
+
+/// The first row `WANT INPUT` whose test fails over the configuration, where WANT is what the field is to be.
+pub fn first_failing<'r>(
+    alloc: Global,
+    config: &str,
+    field: &str,
+    rows: &'r str,
+) -> Result<Option<&'r str>, OutOfMemory> {
+    for row in rows.lines() {
+        let Some((want, input)) = row.split_once(' ') else {
+            return Ok(Some(row));
+        };
+        if !passes(alloc, config, field, want, input)? {
+            return Ok(Some(row));
+        }
+    }
+    Ok(None)
+}
+
+/// The first row `yes INPUT` or `no INPUT` that isn't so of a route with this rule.
+fn first_wrong<'r>(
+    alloc: Global,
+    rule: &str,
+    rows: &'r str,
+) -> Result<Option<&'r str>, OutOfMemory> {
+    let config = format!(in alloc;
+        "{}{rule}{}",
+        r#"{"virtual_hosts":[{"name":"h","domains":["*"],"routes":[{"match":"#,
+        r#","route":{"cluster":"yes","timeout":"1s"}},{"match":{"prefix":"/"},"route":{"cluster":"no"}}]}]}"#
+    )?;
+    first_failing(alloc, config.as_str(), "cluster_name", rows)
+}
+
+const SEPARATED: &str = r#"{"path_separated_prefix":"/api/dev"}"#;
+
+const SEPARATED_ROWS: &str = r#"yes {"authority":"x.com","path":"/api/dev"}
+yes {"authority":"x.com","path":"/api/dev/"}
+no {"authority":"x.com","path":"/api/developer"}
+yes {"authority":"x.com","path":"/api/dev?x=1"}"#;
+
+const RANGE: &str =
+    r#"{"prefix":"/","headers":[{"name":"n","range_match":{"start":-10,"end":0}}]}"#;
+
+const RANGE_ROWS: &str =
+    r#"yes {"authority":"x.com","path":"/","additional_request_headers":[{"key":"n","value":"-1"}]}
+no {"authority":"x.com","path":"/","additional_request_headers":[{"key":"n","value":"0"}]}
+yes {"authority":"x.com","path":"/","additional_request_headers":[{"key":"n","value":"-010"}]}
+no {"authority":"x.com","path":"/","additional_request_headers":[{"key":"n","value":"+1"}]}
+no {"authority":"x.com","path":"/","additional_request_headers":[{"key":"n","value":""}]}
+no {"authority":"x.com","path":"/"}"#;
+
+const NO_RANGE: &str =
+    r#"{"prefix":"/","headers":[{"name":"n","range_match":{"start":-10,"end":0},"invert_match":true}]}"#;
+
+const NO_RANGE_ROWS: &str = r#"no {"authority":"x.com","path":"/"}
+yes {"authority":"x.com","path":"/","additional_request_headers":[{"key":"n","value":"0"}]}"#;
+
+const ABSENT: &str = r#"{"prefix":"/","headers":[{"name":"x","invert_match":true}]}"#;
+
+const ABSENT_ROWS: &str = r#"yes {"authority":"x.com","path":"/"}
+no {"authority":"x.com","path":"/","additional_request_headers":[{"key":"x"}]}"#;
+
+const JOINED: &str = r#"{"prefix":"/","headers":[{"name":"X-A","exact_match":"1,2"}]}"#;
+
+const JOINED_ROWS: &str =
+    r#"yes {"authority":"x.com","path":"/","additional_request_headers":[{"key":"x-a","value":"1"},{"key":"X-a","value":"2"}]}
+no {"authority":"x.com","path":"/","additional_request_headers":[{"key":"x-a","value":"1"}]}"#;
+
+const QUERY: &str =
+    r#"{"prefix":"/","query_parameters":[{"name":"k","string_match":{"exact":"1"}}]}"#;
+
+const QUERY_ROWS: &str = r#"no {"authority":"x.com","path":"/?k=2&k=1"}
+yes {"authority":"x.com","path":"/?k=1&k=2"}
+no {"authority":"x.com","path":"/?kk=1"}
+no {"authority":"x.com","path":"/?k"}"#;
+
+const FRACTION: &str =
+    r#"{"prefix":"/","runtime_fraction":{"default_value":{"numerator":25},"runtime_key":"k"}}"#;
+
+const FRACTION_ROWS: &str = r#"yes {"authority":"x.com","path":"/","runtime":"k","random_value":24}
+no {"authority":"x.com","path":"/","runtime":"k","random_value":25}
+no {"authority":"x.com","path":"/","runtime":"k","random_value":"125"}
+no {"authority":"x.com","path":"/","random_value":24}"#;
+
+const NO_KEY: &str =
+    r#"{"prefix":"/","runtime_fraction":{"default_value":{"numerator":0},"runtime_key":""}}"#;
+
+const NO_KEY_ROWS: &str = r#"yes {"authority":"x.com","path":"/","random_value":100}"#;
+
+const GRPC: &str = r#"{"prefix":"/","grpc":{}}"#;
+
+const GRPC_ROWS: &str =
+    r#"yes {"authority":"x.com","path":"/","additional_request_headers":[{"key":"content-type","value":"application/grpc+proto"}]}
+no {"authority":"x.com","path":"/","additional_request_headers":[{"key":"content-type","value":"application/grpc-web"}]}"#;
+
+/// Each rule with the requests on which it holds, and those on which it doesn't.
+#[test]
+fn rules_hold_on_their_requests(rt: HostRuntime) -> Result<(), Fail> {
+    let alloc = rt.alloc();
+    assert_eq!(rt; first_wrong(alloc, SEPARATED, SEPARATED_ROWS)?, None);
+    assert_eq!(rt; first_wrong(alloc, RANGE, RANGE_ROWS)?, None);
+    assert_eq!(rt; first_wrong(alloc, NO_RANGE, NO_RANGE_ROWS)?, None);
+    assert_eq!(rt; first_wrong(alloc, ABSENT, ABSENT_ROWS)?, None);
+    assert_eq!(rt; first_wrong(alloc, JOINED, JOINED_ROWS)?, None);
+    Ok(())
+}
+
+/// The same of rules on queries, on a random value and on gRPC.
+#[test]
+fn other_rules_hold_on_their_requests(rt: HostRuntime) -> Result<(), Fail> {
+    let alloc = rt.alloc();
+    assert_eq!(rt; first_wrong(alloc, QUERY, QUERY_ROWS)?, None);
+    assert_eq!(rt; first_wrong(alloc, FRACTION, FRACTION_ROWS)?, None);
+    assert_eq!(rt; first_wrong(alloc, NO_KEY, NO_KEY_ROWS)?, None);
+    assert_eq!(rt; first_wrong(alloc, GRPC, GRPC_ROWS)?, None);
+    Ok(())
+}
+
+const DOMAINS: &str = r#"{"virtual_hosts":[
+{"name":"behind","domains":["*.foo.com"],"routes":[{"match":{"prefix":"/"},"route":{"cluster":"a"}}]},
+{"name":"longer","domains":["*-bar.foo.com"],"routes":[{"match":{"prefix":"/"},"route":{"cluster":"a"}}]},
+{"name":"before","domains":["foo.*"],"routes":[{"match":{"prefix":"/"},"route":{"cluster":"a"}}]},
+{"name":"any","domains":["*"],"routes":[{"match":{"prefix":"/"},"route":{"cluster":"a"}}]}]}"#;
+
+const DOMAIN_ROWS: &str = r#"longer {"authority":"baz-bar.foo.com","path":"/"}
+behind {"authority":"-bar.foo.com","path":"/"}
+before {"authority":"FOO.com","path":"/"}
+any {"authority":".foo.com","path":"/"}"#;
+
+const PORTS: &str = r#"{"ignore_port_in_host_matching":true,"virtual_hosts":[
+{"name":"h","domains":["a.com"],"routes":[{"match":{"prefix":"/"},"route":{"cluster":"a"}}]}]}"#;
+
+const PORT_ROWS: &str = r#"h {"authority":"a.com:8080","path":"/"}
+h {"authority":"a.com:","path":"/"}
+ {"authority":"[::1]","path":"/"}"#;
+
+/// The longest of the domains with `*` in front goes before those with `*` behind, letter case is no matter, and a port may be.
+#[test]
+fn hosts_are_chosen_by_their_domains(rt: HostRuntime) -> Result<(), Fail> {
+    let alloc = rt.alloc();
+    let name = "virtual_host_name";
+    assert_eq!(rt; first_failing(alloc, DOMAINS, name, DOMAIN_ROWS)?, None);
+    assert_eq!(rt; first_failing(alloc, PORTS, name, PORT_ROWS)?, None);
+    Ok(())
+}
