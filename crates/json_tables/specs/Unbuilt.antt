@@ -6,8 +6,5 @@ use Rattle.json_tables.specs.Names as name
 
 abbrev pub unbuilt : Message → List (List ℕ)
 unbuilt messages.VirtualHost = name.matcher ∷ name.virtual_clusters ∷ []
-unbuilt messages.RouteMatch = name.safe_regex ∷ []
-unbuilt messages.HeaderMatcher = name.safe_regex_match ∷ []
-unbuilt messages.StringMatcher = name.safe_regex ∷ []
 unbuilt messages.Validate = name.virtual_cluster_name ∷ name.request_header_matches ∷ name.response_header_matches ∷ []
 unbuilt _ = []

@@ -16,27 +16,6 @@ fn virtual_host() -> &'static [Spellings]
     ]
 }
 
-#[tactic(auto, unfolding(crate::specs::Names::safe_regex))]
-fn route_match() -> &'static [Spellings]
-    ensures { map both result.now ≡ spellings (unbuilt messages.RouteMatch) }
-{
-    &[("safe_regex", "safeRegex")]
-}
-
-#[tactic(auto, unfolding(crate::specs::Names::safe_regex_match))]
-fn header_matcher() -> &'static [Spellings]
-    ensures { map both result.now ≡ spellings (unbuilt messages.HeaderMatcher) }
-{
-    &[("safe_regex_match", "safeRegexMatch")]
-}
-
-#[tactic(auto, unfolding(crate::specs::Names::safe_regex))]
-fn string_matcher() -> &'static [Spellings]
-    ensures { map both result.now ≡ spellings (unbuilt messages.StringMatcher) }
-{
-    &[("safe_regex", "safeRegex")]
-}
-
 #[tactic(auto, unfolding(crate::specs::Names::virtual_cluster_name, crate::specs::Names::request_header_matches, crate::specs::Names::response_header_matches))]
 fn validate() -> &'static [Spellings]
     ensures { map both result.now ≡ spellings (unbuilt messages.Validate) }
@@ -54,9 +33,6 @@ pub fn unbuilt_of(message: Message) -> &'static [Spellings]
 {
     match message {
         Message::VirtualHost => virtual_host(),
-        Message::RouteMatch => route_match(),
-        Message::HeaderMatcher => header_matcher(),
-        Message::StringMatcher => string_matcher(),
         Message::Validate => validate(),
         _ => &[],
     }

@@ -1,13 +1,119 @@
-// Routes, actions and edits that are read, and offences with their places.
+// Routes, actions and edits that are read, and offences with their kinds and places.
 use crate::clusters::{ClusterWeight, WeightedCluster};
 use crate::edits::HeaderOption;
 use crate::forward::RouteAction;
 use crate::redirect::{DirectResponseAction, RedirectAction};
 use crate::{PlainRoute, TypedRoute, read_edits, read_route};
-use cfg_types::{Act, How, PathTo, Target};
-use json_walk::{Kind, ReadFail, Reader, Refusal, Text, read_value};
+use cfg_types::{Act, Addition, EditPair, Forward, PathTo, Redirect, Route, Share, Target};
+use json_walk::{ReadFail, Reader, Refusal, Text, read_value};
+use sqlite_items::Items;
 use std::alloc::Global;
 use std::test::Fail;
+use text_base::OutOfMemory;
+
+/// What was read, as a short text.
+trait Told {
+    fn told(&self, alloc: Global) -> Result<String, OutOfMemory>;
+}
+
+fn cluster_of(target: &Target) -> &str {
+    match target {
+        Target::Cluster(name) => name.as_str(),
+        _ => "none",
+    }
+}
+
+impl Told for Forward {
+    fn told(&self, alloc: Global) -> Result<String, OutOfMemory> {
+        format!(in alloc;
+            "cluster={} rewrite={}",
+            cluster_of(&self.to),
+            self.prefix_rewrite.as_str()
+        )
+    }
+}
+
+impl Told for Share {
+    fn told(&self, alloc: Global) -> Result<String, OutOfMemory> {
+        format!(in alloc; "name={} weight={}", self.name.as_str(), self.weight)
+    }
+}
+
+impl Told for Items<Share> {
+    fn told(&self, alloc: Global) -> Result<String, OutOfMemory> {
+        format!(in alloc; "shares={}", self.len())
+    }
+}
+
+impl Told for Addition {
+    fn told(&self, alloc: Global) -> Result<String, OutOfMemory> {
+        format!(in alloc;
+            "name={} value={} how={:?} keep={}",
+            self.name.as_str(),
+            self.value.as_str(),
+            self.how,
+            self.keep_empty
+        )
+    }
+}
+
+impl Told for PathTo {
+    fn told(&self, alloc: Global) -> Result<String, OutOfMemory> {
+        match self {
+            PathTo::Keep => format!(in alloc; "kept"),
+            PathTo::Whole(path) => format!(in alloc; "whole:{}", path.as_str()),
+            PathTo::Prefix(path) => format!(in alloc; "prefix:{}", path.as_str()),
+        }
+    }
+}
+
+impl Told for Redirect {
+    fn told(&self, alloc: Global) -> Result<String, OutOfMemory> {
+        let path = self.path.told(alloc)?;
+        format!(in alloc;
+            "scheme={} host={} port={} path={path} code={} strip={}",
+            self.scheme.as_str(),
+            self.host.as_str(),
+            self.port,
+            self.code,
+            self.strip
+        )
+    }
+}
+
+impl Told for u16 {
+    fn told(&self, alloc: Global) -> Result<String, OutOfMemory> {
+        format!(in alloc; "status={self}")
+    }
+}
+
+impl Told for Act {
+    fn told(&self, alloc: Global) -> Result<String, OutOfMemory> {
+        match self {
+            Act::Forward(forward) => forward.told(alloc),
+            Act::Redirect(redirect) => redirect.told(alloc),
+            Act::Direct { status } => status.told(alloc),
+        }
+    }
+}
+
+impl Told for Route {
+    fn told(&self, alloc: Global) -> Result<String, OutOfMemory> {
+        let act = self.act.told(alloc)?;
+        format!(in alloc;
+            "place={} name={} {act} added={}",
+            self.place.as_str(),
+            self.name.as_str(),
+            self.edits.request.add.len()
+        )
+    }
+}
+
+impl Told for Refusal {
+    fn told(&self, alloc: Global) -> Result<String, OutOfMemory> {
+        format!(in alloc; "{:?} {}", self.kind, self.place.as_str())
+    }
+}
 
 /// What the reader reads of the JSON text at `/m`.
 fn read<R: Reader>(alloc: Global, text: &str, reader: &R) -> Result<R::Out, ReadFail> {
@@ -16,291 +122,180 @@ fn read<R: Reader>(alloc: Global, text: &str, reader: &R) -> Result<R::Out, Read
     reader.read(alloc, &value, &place)
 }
 
-/// The offence of what the reader reads, if it has one.
-fn offence_of<R: Reader>(
+/// What was read, or its offence.
+fn outcome<T: Told + Drop>(
     alloc: Global,
-    text: &str,
+    read: Result<T, ReadFail>,
+) -> Result<String, OutOfMemory> {
+    match read {
+        Ok(value) => value.told(alloc),
+        Err(ReadFail::Refused(refusal)) => refusal.told(alloc),
+        Err(ReadFail::OutOfMemory) => Err(OutOfMemory),
+    }
+}
+
+/// Whether the row `TEXT => OUTCOME` says what the reader makes of the JSON text.
+fn row_holds<R: Reader>(alloc: Global, row: &str, reader: &R) -> Result<bool, OutOfMemory>
+where
+    R::Out: Told,
+{
+    match row.split_once(" => ") {
+        Some((text, want)) => {
+            let found = outcome(alloc, read(alloc, text, reader))?;
+            Ok(found.as_str() == want)
+        }
+        None => Ok(false),
+    }
+}
+
+/// The first row that doesn't hold, or the table itself where it has none.
+fn first_wrong<'r, R: Reader>(
+    alloc: Global,
+    rows: &'r str,
     reader: &R,
-) -> Result<Option<Refusal>, ReadFail> {
-    match read(alloc, text, reader) {
-        Ok(_) => Ok(None),
-        Err(ReadFail::Refused(refusal)) => Ok(Some(refusal)),
-        Err(ReadFail::OutOfMemory) => Err(ReadFail::OutOfMemory),
+) -> Result<Option<&'r str>, OutOfMemory>
+where
+    R::Out: Told,
+{
+    if rows.is_empty() {
+        return Ok(Some(rows));
     }
-}
-
-#[test]
-fn routes_are_read(rt: HostRuntime) -> Result<(), Fail> {
-    let alloc = rt.alloc();
-    let place = Text::of(alloc, "/r")?;
-    let value = read_value(
-        alloc,
-        r#"{"name":"n","match":{"prefix":"/"},"route":{"cluster":"c"},"metadata":7}"#.as_bytes(),
-    )?;
-    let route = read_route(alloc, &value, &place, false)?;
-    assert_eq!(rt; route.place.as_str(), "/r");
-    assert_eq!(rt; route.name.as_str(), "n");
-    assert_eq!(rt; route.edits.request.add.len(), 0);
-    assert!(rt;
-        matches!(&route.act, Act::Forward(forward) if matches!(&forward.to, Target::Cluster(name) if name.as_str() == "c"))
-    );
-    let typed = read(
-        alloc,
-        r#"{"@type":7,"match":{"path":"/a"},"route":{"cluster":"c"}}"#,
-        &TypedRoute,
-    )?;
-    assert_eq!(rt; typed.place.as_str(), "/m");
-    assert_eq!(rt; typed.name.as_str(), "");
-    Ok(())
-}
-
-#[test]
-fn routes_have_offences(rt: HostRuntime) -> Result<(), Fail> {
-    let rows = [
-        (r#"{"@type":"x"}"#, "/m/@type", Kind::UnknownField),
-        (r#"{"route":{}}"#, "/m/match", Kind::Missing),
-        (
-            r#"{"match":{"prefix":"/"},"redirect":{}}"#,
-            "/m/redirect",
-            Kind::NotInProfile,
-        ),
-        (r#"{"match":{"prefix":"/"}}"#, "/m", Kind::Missing),
-        (
-            r#"{"match":{"prefix":"/"},"route":{}}"#,
-            "/m/route",
-            Kind::Missing,
-        ),
-        (
-            r#"{"match":{"prefix":"/"},"route":{"cluster":""}}"#,
-            "/m/route/cluster",
-            Kind::BadText,
-        ),
-    ];
-    for (text, place, kind) in rows {
-        let refusal = offence_of(rt.alloc(), text, &PlainRoute)?.ok_or("read")?;
-        assert_eq!(rt; refusal.place.as_str(), place, "{text}");
-        assert_eq!(rt; refusal.kind, kind, "{text}");
+    for row in rows.lines() {
+        if !row_holds(alloc, row, reader)? {
+            return Ok(Some(row));
+        }
     }
-    Ok(())
+    Ok(None)
 }
 
+const ROUTES: &str =
+    r#"{"match":{"prefix":"/"},"redirect":{}} => place=/m name= scheme= host= port=0 path=kept code=301 strip=false added=0
+{"@type":"x"} => UnknownField /m/@type
+{"route":{}} => Missing /m/match
+{"match":{"prefix":"/"},"filter_action":{}} => NotInProfile /m/filter_action
+{"match":{"prefix":"/"}} => Missing /m
+{"match":{"prefix":"/"},"route":{}} => Missing /m/route
+{"match":{"prefix":"/"},"route":{"cluster":""}} => BadText /m/route/cluster"#;
+
+const TYPED: &str =
+    r#"{"@type":7,"match":{"path":"/a"},"route":{"cluster":"c"}} => place=/m name= cluster=c rewrite= added=0"#;
+
+const ACTIONS: &str = r#"{"cluster":"c","timeout":"1s"} => cluster=c rewrite=
+{"cluster":"c","regex_rewrite":{}} => NotInProfile /m/regex_rewrite"#;
+
+const ADDITIONS: &str =
+    r#"{"header":{"key":"a","value":"%%"},"keepEmptyValue":true} => name=a value=%% how=Append keep=true
+{"header":{"key":"a"},"append":false} => name=a value= how=Overwrite keep=false
+{"header":{"key":"a"},"append_action":"OVERWRITE_IF_EXISTS"} => name=a value= how=OverwriteIfThere keep=false
+{} => Missing /m/header
+{"header":{}} => Missing /m/header/key
+{"header":{"key":"Host"}} => BadText /m/header/key
+{"header":{"key":"a","raw_value":"x"}} => NotInProfile /m/header/raw_value
+{"header":{"key":"a"},"append_action":"ADD"} => OutOfRange /m/append_action
+{"header":{"key":"a"},"append":true,"append_action":"ADD_IF_ABSENT"} => Conflict /m/append_action
+{"header":{"key":"a"},"append":true,"append_action":"ADD_IF_ABSENT","keep_empty_value":1} => WrongKind /m/keep_empty_value"#;
+
+const SHARES: &str =
+    r#"{"clusters":[{"name":"a","weight":1},{"name":"b","weight":"2"}],"total_weight":3} => shares=2
+{} => Missing /m/clusters
+{"clusters":[]} => OutOfRange /m/clusters
+{"clusters":[{"name":"a","weight":0}],"total_weight":-1} => OutOfRange /m/total_weight
+{"clusters":[{"name":"a","weight":4294967295},{"name":"b","weight":1}]} => OutOfRange /m/clusters
+{"clusters":[{"name":"a","weight":1}],"total_weight":2} => Conflict /m/total_weight
+{"clusters":[{"name":"a"}]} => Missing /m/clusters/0/weight"#;
+
+const REDIRECTS: &str = r#"{} => scheme= host= port=0 path=kept code=301 strip=false
+{"httpsRedirect":true,"host_redirect":"h","port_redirect":8443,"path_redirect":"","response_code":"SEE_OTHER","strip_query":true} => scheme=https host=h port=8443 path=whole: code=303 strip=true
+{"prefix_rewrite":"/b"} => scheme= host= port=0 path=prefix:/b code=301 strip=false
+{"https_redirect":false,"scheme_redirect":"x"} => Conflict /m/scheme_redirect
+{"https_redirect":false,"scheme_redirect":"x","strip_query":1} => WrongKind /m/strip_query
+{"path_redirect":"/a","prefix_rewrite":"/b"} => Conflict /m/prefix_rewrite
+{"path_redirect":"/a b"} => BadText /m/path_redirect
+{"port_redirect":65536} => OutOfRange /m/port_redirect
+{"response_code":"OK"} => OutOfRange /m/response_code
+{"regex_rewrite":{}} => NotInProfile /m/regex_rewrite"#;
+
+const RESPONSES: &str = r#"{"status":"599"} => status=599
+{"status":199} => OutOfRange /m/status"#;
+
 #[test]
-fn route_actions_are_read(rt: HostRuntime) -> Result<(), Fail> {
+fn routes_are_read_or_have_an_offence(rt: HostRuntime) -> Result<(), Fail> {
     let alloc = rt.alloc();
-    let forward = read(alloc, r#"{"cluster":"c","timeout":"1s"}"#, &RouteAction)?;
-    assert_eq!(rt; forward.prefix_rewrite.as_str(), "");
-    let refusal = offence_of(alloc, r#"{"cluster":"c","regex_rewrite":{}}"#, &RouteAction)?.ok_or(
-        "read",
-    )?;
-    assert_eq!(rt; refusal.place.as_str(), "/m/regex_rewrite");
-    assert_eq!(rt; refusal.kind, Kind::NotInProfile);
+    assert_eq!(rt; first_wrong(alloc, ROUTES, &PlainRoute)?, None);
+    assert_eq!(rt; first_wrong(alloc, TYPED, &TypedRoute)?, None);
+    assert_eq!(rt; first_wrong(alloc, ACTIONS, &RouteAction)?, None);
     Ok(())
 }
 
 #[test]
-fn edits_are_read(rt: HostRuntime) -> Result<(), Fail> {
+fn actions_are_read_or_have_an_offence(rt: HostRuntime) -> Result<(), Fail> {
     let alloc = rt.alloc();
-    let place = Text::of(alloc, "")?;
-    let value = read_value(
-        alloc,
-        r#"{"other":1,"requestHeadersToAdd":[{"header":{"key":"X-A"}}],"request_headers_to_remove":["B"],"responseHeadersToRemove":null}"#.as_bytes(),
-    )?;
-    let edits = read_edits(alloc, &value, &place)?;
-    let [added] = edits.request.add.as_slice() else {
-        return Err("one addition".into());
-    };
-    assert_eq!(rt; added.name.as_str(), "x-a");
-    assert_eq!(rt; added.value.as_str(), "");
-    assert_eq!(rt; edits.request.remove.len(), 1);
-    assert_eq!(rt; edits.response.add.len(), 0);
-    assert_eq!(rt; edits.response.remove.len(), 0);
-    Ok(())
-}
-
-#[test]
-fn additions_are_read(rt: HostRuntime) -> Result<(), Fail> {
-    let alloc = rt.alloc();
-    let plain = read(
-        alloc,
-        r#"{"header":{"key":"a","value":"%%"},"keepEmptyValue":true}"#,
-        &HeaderOption,
-    )?;
-    assert_eq!(rt; plain.value.as_str(), "%%");
-    assert_eq!(rt; plain.how, How::Append);
-    assert!(rt; plain.keep_empty);
-    let over = read(
-        alloc,
-        r#"{"header":{"key":"a"},"append":false}"#,
-        &HeaderOption,
-    )?;
-    assert_eq!(rt; over.how, How::Overwrite);
-    let there = read(
-        alloc,
-        r#"{"header":{"key":"a"},"append_action":"OVERWRITE_IF_EXISTS"}"#,
-        &HeaderOption,
-    )?;
-    assert_eq!(rt; there.how, How::OverwriteIfThere);
-    Ok(())
-}
-
-#[test]
-fn additions_have_offences(rt: HostRuntime) -> Result<(), Fail> {
-    let rows = [
-        ("{}", "/m/header", Kind::Missing),
-        (r#"{"header":{}}"#, "/m/header/key", Kind::Missing),
-        (
-            r#"{"header":{"key":"Host"}}"#,
-            "/m/header/key",
-            Kind::BadText,
-        ),
-        (
-            r#"{"header":{"key":"a","raw_value":"x"}}"#,
-            "/m/header/raw_value",
-            Kind::NotInProfile,
-        ),
-        (
-            r#"{"header":{"key":"a"},"append_action":"ADD"}"#,
-            "/m/append_action",
-            Kind::OutOfRange,
-        ),
-        (
-            r#"{"header":{"key":"a"},"append":true,"append_action":"ADD_IF_ABSENT"}"#,
-            "/m/append_action",
-            Kind::Conflict,
-        ),
-        (
-            r#"{"header":{"key":"a"},"append":true,"append_action":"ADD_IF_ABSENT","keep_empty_value":1}"#,
-            "/m/keep_empty_value",
-            Kind::WrongKind,
-        ),
-    ];
-    for (text, place, kind) in rows {
-        let refusal = offence_of(rt.alloc(), text, &HeaderOption)?.ok_or("read")?;
-        assert_eq!(rt; refusal.place.as_str(), place, "{text}");
-        assert_eq!(rt; refusal.kind, kind, "{text}");
-    }
+    assert_eq!(rt; first_wrong(alloc, REDIRECTS, &RedirectAction)?, None);
+    assert_eq!(rt; first_wrong(alloc, RESPONSES, &DirectResponseAction)?, None);
+    assert_eq!(rt; first_wrong(alloc, ADDITIONS, &HeaderOption)?, None);
     Ok(())
 }
 
 #[test]
 fn weights_add_up(rt: HostRuntime) -> Result<(), Fail> {
     let alloc = rt.alloc();
-    let share = read(alloc, r#"{"name":"a","weight":0}"#, &ClusterWeight)?;
-    assert_eq!(rt; share.weight, 0);
-    let shares = read(
-        alloc,
-        r#"{"clusters":[{"name":"a","weight":1},{"name":"b","weight":"2"}],"total_weight":3}"#,
-        &WeightedCluster,
-    )?;
-    assert_eq!(rt; shares.len(), 2);
-    let rows = [
-        ("{}", "/m/clusters", Kind::Missing),
-        (r#"{"clusters":[]}"#, "/m/clusters", Kind::OutOfRange),
-        (
-            r#"{"clusters":[{"name":"a","weight":0}],"total_weight":-1}"#,
-            "/m/total_weight",
-            Kind::OutOfRange,
-        ),
-        (
-            r#"{"clusters":[{"name":"a","weight":4294967295},{"name":"b","weight":1}]}"#,
-            "/m/clusters",
-            Kind::OutOfRange,
-        ),
-        (
-            r#"{"clusters":[{"name":"a","weight":1}],"total_weight":2}"#,
-            "/m/total_weight",
-            Kind::Conflict,
-        ),
-        (
-            r#"{"clusters":[{"name":"a"}]}"#,
-            "/m/clusters/0/weight",
-            Kind::Missing,
-        ),
-    ];
-    for (text, place, kind) in rows {
-        let refusal = offence_of(alloc, text, &WeightedCluster)?.ok_or("read")?;
-        assert_eq!(rt; refusal.place.as_str(), place, "{text}");
-        assert_eq!(rt; refusal.kind, kind, "{text}");
-    }
+    let share = r#"{"name":"a","weight":0} => name=a weight=0"#;
+    assert_eq!(rt; first_wrong(alloc, share, &ClusterWeight)?, None);
+    assert_eq!(rt; first_wrong(alloc, SHARES, &WeightedCluster)?, None);
     Ok(())
 }
 
+/// What is read of a route at `/r`.
+fn route_at_its_place(alloc: Global, text: &str) -> Result<Route, ReadFail> {
+    let value = read_value(alloc, text.as_bytes())?;
+    let place = Text::of(alloc, "/r")?;
+    read_route(alloc, &value, &place, false)
+}
+
 #[test]
-fn redirects_are_read(rt: HostRuntime) -> Result<(), Fail> {
+fn a_route_keeps_its_place(rt: HostRuntime) -> Result<(), Fail> {
     let alloc = rt.alloc();
-    let plain = read(alloc, "{}", &RedirectAction)?;
-    assert_eq!(rt; plain.scheme.as_str(), "");
-    assert_eq!(rt; plain.port, 0);
-    assert_eq!(rt; plain.code, 301);
-    assert!(rt; matches!(&plain.path, PathTo::Keep));
-    let https = read(
-        alloc,
-        r#"{"httpsRedirect":true,"host_redirect":"h","port_redirect":8443,"path_redirect":"","response_code":"SEE_OTHER","strip_query":true}"#,
-        &RedirectAction,
-    )?;
-    assert_eq!(rt; https.scheme.as_str(), "https");
-    assert_eq!(rt; https.host.as_str(), "h");
-    assert_eq!(rt; https.port, 8443);
-    assert_eq!(rt; https.code, 303);
-    assert!(rt; https.strip);
-    assert!(rt; matches!(&https.path, PathTo::Whole(path) if path.as_str() == ""));
-    let prefix = read(alloc, r#"{"prefix_rewrite":"/b"}"#, &RedirectAction)?;
-    assert!(rt; matches!(&prefix.path, PathTo::Prefix(path) if path.as_str() == "/b"));
+    let text = r#"{"name":"n","match":{"prefix":"/"},"route":{"cluster":"c"},"metadata":7}"#;
+    let found = outcome(alloc, route_at_its_place(alloc, text))?;
     assert_eq!(rt;
-        read(alloc, r#"{"status":"599"}"#, &DirectResponseAction)?,
-        599
+        found.as_str(),
+        "place=/r name=n cluster=c rewrite= added=0"
     );
     Ok(())
 }
 
-#[test]
-fn redirects_have_offences(rt: HostRuntime) -> Result<(), Fail> {
-    let rows = [
-        (
-            r#"{"https_redirect":false,"scheme_redirect":"x"}"#,
-            "/m/scheme_redirect",
-            Kind::Conflict,
-        ),
-        (
-            r#"{"https_redirect":false,"scheme_redirect":"x","strip_query":1}"#,
-            "/m/strip_query",
-            Kind::WrongKind,
-        ),
-        (
-            r#"{"path_redirect":"/a","prefix_rewrite":"/b"}"#,
-            "/m/prefix_rewrite",
-            Kind::Conflict,
-        ),
-        (
-            r#"{"path_redirect":"/a b"}"#,
-            "/m/path_redirect",
-            Kind::BadText,
-        ),
-        (
-            r#"{"port_redirect":65536}"#,
-            "/m/port_redirect",
-            Kind::OutOfRange,
-        ),
-        (
-            r#"{"response_code":"OK"}"#,
-            "/m/response_code",
-            Kind::OutOfRange,
-        ),
-        (
-            r#"{"regex_rewrite":{}}"#,
-            "/m/regex_rewrite",
-            Kind::NotInProfile,
-        ),
-    ];
-    for (text, place, kind) in rows {
-        let refusal = offence_of(rt.alloc(), text, &RedirectAction)?.ok_or("read")?;
-        assert_eq!(rt; refusal.place.as_str(), place, "{text}");
-        assert_eq!(rt; refusal.kind, kind, "{text}");
+impl Told for EditPair {
+    fn told(&self, alloc: Global) -> Result<String, OutOfMemory> {
+        let first = match self.request.add.as_slice().first() {
+            Some(added) => added.told(alloc)?,
+            None => format!(in alloc; "none")?,
+        };
+        format!(in alloc;
+            "{first} added={} removed={} added_back={} removed_back={}",
+            self.request.add.len(),
+            self.request.remove.len(),
+            self.response.add.len(),
+            self.response.remove.len()
+        )
     }
-    let refusal = offence_of(rt.alloc(), r#"{"status":199}"#, &DirectResponseAction)?.ok_or(
-        "read",
-    )?;
-    assert_eq!(rt; refusal.place.as_str(), "/m/status");
-    assert_eq!(rt; refusal.kind, Kind::OutOfRange);
+}
+
+/// What is read of the header lists of an object.
+fn edits_of(alloc: Global, text: &str) -> Result<EditPair, ReadFail> {
+    let value = read_value(alloc, text.as_bytes())?;
+    let place = Text::of(alloc, "")?;
+    read_edits(alloc, &value, &place)
+}
+
+#[test]
+fn header_lists_are_read(rt: HostRuntime) -> Result<(), Fail> {
+    let alloc = rt.alloc();
+    let text =
+        r#"{"other":1,"requestHeadersToAdd":[{"header":{"key":"X-A"}}],"request_headers_to_remove":["B"],"responseHeadersToRemove":null}"#;
+    let found = outcome(alloc, edits_of(alloc, text))?;
+    assert_eq!(rt;
+        found.as_str(),
+        "name=x-a value= how=Append keep=false added=1 removed=1 added_back=0 removed_back=0"
+    );
     Ok(())
 }

@@ -1,5 +1,5 @@
 -- Rules that are read are lawful.
-use Rattle.std.proofs.Common.{◌≡◌, ◌≤◌, ℕ, List, [], ◌∷◌, length, Bool, true, false, not, ◌&&◌, ◌||◌, ◌==◌, if◌then◌else◌, Option, Some, None, IfOk, IsTrue, Ok, refl, ap, ◌∙◌, arith, nat_le, ℤ, pos}
+use Rattle.std.proofs.Common.{◌≡◌, ◌≤◌, ℕ, List, [], ◌∷◌, length, Bool, true, false, not, ◌&&◌, ◌||◌, ◌==◌, if◌then◌else◌, Option, Some, None, IfOk, IsTrue, Ok, Err, refl, ap, ◌∙◌, arith, nat_le, ℤ, pos}
 use Rattle.std.specs.List.{list_any}
 use Rattle.std.specs.Prelude.{All, IfSome, unwrap_or}
 use Rattle.std.proofs.lemmas.List.Elements.{All-nil}
@@ -27,7 +27,11 @@ use Rattle.cfg_types.specs.declared.rules.QueryRule.{QueryRule}
 use Rattle.cfg_types.specs.declared.rules.TextForm.{TextForm}
 use Rattle.cfg_types.specs.declared.rules.TextRule.{TextRule}
 use Rattle.read_match.specs.Kinds.{matcher_text, path_text, field_name, query_name}
-use Rattle.read_match.specs.Patterns.{pattern}
+use Rattle.read_match.specs.Patterns.{pattern_from, pattern}
+use Rattle.rx_parse.specs.declared.fault.RxFault.TheVariants.{Syntax, NotInSubset, TooLarge, OutOfMemory}
+use Rattle.rx_parse.specs.Results.{Answer, IsAnswer}
+use Rattle.rx_parse.specs.Answer.{answer}
+use Rattle.rx_parse.proofs.ExactAnswers.{answer_is}
 use Rattle.read_match.specs.Texts.{regex_text, regex_matcher, text_form, text_forms, string_matcher}
 use Rattle.read_match.specs.Headers.{int_range, value_form, value_forms, header_form, header_forms, header_matcher}
 use Rattle.read_match.specs.Queries.{asks_presence, query_matcher}
@@ -41,10 +45,17 @@ must_is p (Some x) Q h = h
 
 -- ---- patterns and texts
 
--- the one place that knows how a pattern's text is read
+-- a text is read as the term that the grammar gives it
+of_answer : (p t : List ℕ) (a : Answer) → length t ≤ 512 → IsMatcher t → IsAnswer t a → IfOk (pattern_from p t a) IsLawfulPattern
+of_answer p t (Ok term) short is parsed = record { text = is; short = short; spelled = parsed }
+of_answer p t (Err (Syntax a)) short is told = tt
+of_answer p t (Err (NotInSubset a)) short is told = tt
+of_answer p t (Err (TooLarge k)) short is told = tt
+of_answer p t (Err OutOfMemory) short is told = tt
+
 of_pattern : (p t : List ℕ) → length t ≤ 512 → IsMatcher t → IfOk (pattern p t) IsLawfulPattern
 unfolding pattern
-of_pattern p t short is = tt
+of_pattern p t short is = of_answer p t (answer t) short is (answer_is t)
 
 of_regex_text : Reads IsLawfulPattern regex_text
 unfolding regex_text

@@ -83,7 +83,9 @@ Duplicate /virtual_hosts/1/domains/0: {"name":"g","domains":["A.com"]},{"name":"
 const RULES: &str = r#"Missing /virtual_hosts/0/routes/0/match: {}
 BadText /virtual_hosts/0/routes/0/match/prefix: {"prefix":"/?"}
 WrongKind /virtual_hosts/0/routes/0/match/case_sensitive: {"prefix":"/","case_sensitive":1}
-NotInProfile /virtual_hosts/0/routes/0/match/safe_regex: {"safe_regex":{"regex":"/"}}
+Missing /virtual_hosts/0/routes/0/match/safe_regex/regex: {"safe_regex":{}}
+TooMany /virtual_hosts/0/routes/0/match/safe_regex/regex: {"safe_regex":{"regex":"(a{255}){16}"}}
+NotInProfile /virtual_hosts/0/routes/0/match/connect_matcher: {"connect_matcher":{}}
 OutOfRange /virtual_hosts/0/routes/0/match/headers/0/range_match/start: {"prefix":"/","headers":[{"name":"n","range_match":{"start":"9223372036854775808"}}]}
 NotInProfile /virtual_hosts/0/routes/0/match/headers/0/name: {"prefix":"/","headers":[{"name":"host"}]}
 Conflict /virtual_hosts/0/routes/0/match/headers/0/present_match: {"prefix":"/","headers":[{"name":"n","exact_match":"","present_match":true}]}
@@ -109,5 +111,17 @@ fn each_kind_of_offence_has_its_place(rt: HostRuntime) -> Result<(), Fail> {
     );
     assert_eq!(rt; first_wrong(alloc, "config", RULES, front, behind)?, None);
     assert_eq!(rt; first_wrong(alloc, "tests", TESTS, "", "")?, None);
+    Ok(())
+}
+
+/// The line tells the length of the longest front of the text that begins a pattern.
+#[test]
+fn bad_pattern_is_told_with_its_offset(rt: HostRuntime) -> Result<(), Fail> {
+    let config = r#"{"virtual_hosts":[{"name":"h","domains":["*"],"routes":[{"match":{"safe_regex":{"regex":"(a"}},"route":{"cluster":"a"}}]}]}"#;
+    let line = concat!(
+        r#"{"at":2,"kind":"BadRegex","place":"/virtual_hosts/0/routes/0/match/safe_regex/regex","refused":"config"}"#,
+        "\n"
+    );
+    assert!(rt; is_refused(rt.alloc(), config, PASSING, line)?);
     Ok(())
 }

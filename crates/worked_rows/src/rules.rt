@@ -138,6 +138,45 @@ fn other_rules_hold_on_their_requests(rt: HostRuntime) -> Result<(), Fail> {
     Ok(())
 }
 
+const PATTERN: &str = r#"{"safe_regex":{"regex":"/[a-c]+"}}"#;
+
+const PATTERN_ROWS: &str = r#"yes {"authority":"x.com","path":"/abc"}
+yes {"authority":"x.com","path":"/abc?d"}
+no {"authority":"x.com","path":"/abd"}
+no {"authority":"x.com","path":"/"}"#;
+
+const CASED: &str =
+    r#"{"prefix":"/","headers":[{"name":"x","string_match":{"safe_regex":{"regex":"a"},"ignore_case":true}}]}"#;
+
+const CASED_ROWS: &str =
+    r#"yes {"authority":"x.com","path":"/","additional_request_headers":[{"key":"x","value":"a"}]}
+no {"authority":"x.com","path":"/","additional_request_headers":[{"key":"x","value":"A"}]}"#;
+
+const FOLDED: &str =
+    r#"{"prefix":"/","headers":[{"name":"x","safe_regex_match":{"regex":"(?i)a"}}]}"#;
+
+const FOLDED_ROWS: &str =
+    r#"yes {"authority":"x.com","path":"/","additional_request_headers":[{"key":"x","value":"A"}]}"#;
+
+const COMPLEMENT: &str =
+    r#"{"prefix":"/","query_parameters":[{"name":"q","string_match":{"safe_regex":{"regex":"[^a]"}}}]}"#;
+
+const COMPLEMENT_ROWS: &str = r#"yes {"authority":"x.com","path":"/?q=b"}
+yes {"authority":"x.com","path":"/?q=^"}
+no {"authority":"x.com","path":"/?q=a"}
+no {"authority":"x.com","path":"/?q=bb"}"#;
+
+/// The whole text has to match a pattern, and only its own flag ignores case.
+#[test]
+fn patterns_hold_on_their_requests(rt: HostRuntime) -> Result<(), Fail> {
+    let alloc = rt.alloc();
+    assert_eq!(rt; first_wrong(alloc, PATTERN, PATTERN_ROWS)?, None);
+    assert_eq!(rt; first_wrong(alloc, CASED, CASED_ROWS)?, None);
+    assert_eq!(rt; first_wrong(alloc, FOLDED, FOLDED_ROWS)?, None);
+    assert_eq!(rt; first_wrong(alloc, COMPLEMENT, COMPLEMENT_ROWS)?, None);
+    Ok(())
+}
+
 const DOMAINS: &str = r#"{"virtual_hosts":[
 {"name":"behind","domains":["*.foo.com"],"routes":[{"match":{"prefix":"/"},"route":{"cluster":"a"}}]},
 {"name":"longer","domains":["*-bar.foo.com"],"routes":[{"match":{"prefix":"/"},"route":{"cluster":"a"}}]},
