@@ -1,9 +1,11 @@
 -- The table of a term, and what a step of its rows stands for.
-use Rattle.std.proofs.Common.{◌≡◌, ◌↔◌, ℕ, add-one, ◌-◌, ◌+◌, ◌<◌, ◌≤◌, Bool, true, false, ◌⊎◌, inl, inr, List, [], ◌∷◌, length, get_or, set, refl, sym, ◌∙◌, ap, subst, arith}
+use Rattle.std.proofs.Common.{◌≡◌, ◌↔◌, ℕ, add-one, ◌-◌, ◌+◌, ◌<◌, ◌≤◌, Bool, true, false, ◌⊎◌, inl, inr, max, List, [], ◌∷◌, ◌++◌, length, get_or, set, refl, sym, ◌∙◌, ap, subst, arith}
 use Rattle.std.proofs.Common.{take}
 use Rattle.rx_term.proofs.Closing.{state_push}
-use Rattle.std.proofs.lemmas.List.{take_more, get_or-set_same, get_or-set_other, get_or-map, length-set, same_lists, get_or_default}
+use Rattle.std.proofs.lemmas.List.{take_more, take-append-le, get_or-set_same, get_or-set_other, get_or-map, length-set, same_lists, get_or_default}
 use Rattle.std.proofs.Math.ListN.{length-map}
+use Rattle.std.proofs.Math.Nat.{le-max_left}
+use Rattle.std.proofs.Math.Seq.{take-length}
 use Rattle.std.proofs.lemmas.Bool.{cases_eq, cases_lt}
 use Rattle.rx_term.specs.declared.terms.Term.{Term}
 use Rattle.rx_term.specs.declared.terms.Term as term
@@ -11,12 +13,13 @@ use Rattle.rx_term.specs.Language.{Has, nullable, derive, after, state, acceptin
 use Rattle.rx_term.proofs.Language.{Has_flat, Has_unflat, accepting_from, accepting_has}
 use Rattle.rx_auto.specs.Node.{term_at}
 use Rattle.rx_auto.specs.Distinct.{AreDistinct}
+use Rattle.rx_auto.specs.Ways.{list_at}
 use Rattle.rx_auto.specs.declared.parts.Spot.{Spot}
 use Rattle.rx_auto.specs.declared.parts.Piece.{Piece}
 use Rattle.rx_auto.specs.Parts.{no_spot, spot_at, AreWays, IsSpot, IsPiece}
 use Rattle.rx_auto.specs.Marks.{mark_at, rep_at, IsMarked, Fires}
-use Rattle.rx_auto.specs.Table.{tails, IsRep, IsTable}
-use Rattle.rx_auto.proofs.Joins.{Extends_refl}
+use Rattle.rx_auto.specs.Table.{TableMeaning, tails, meaning_of, IsRep, IsTable}
+use Rattle.rx_auto.proofs.Joins.{Extends_refl, Grows_refl}
 use Rattle.rx_auto.proofs.Pieces.{ways_kept, spot_kept}
 
 pub tails_at : (ts : List Term) (spots : List Spot) (i : ℕ) → i < length spots → term_at (tails ts spots) i ≡ term_at ts (spot_at spots i).tail
@@ -25,20 +28,30 @@ tails_at ts spots i h = get_or-map (λ s. term_at ts s.tail) spots i no_spot ter
 pub tails_long : (ts : List Term) (spots : List Spot) → length (tails ts spots) ≡ length spots
 tails_long ts spots = length-map spots (λ s. term_at ts s.tail)
 
+-- the room has a mark for each term
+pub room_enough : (ts : List Term) (ws : List (List ℕ)) (spots : List Spot) (t : TableMeaning) (n : ℕ) → meaning_of ts ws spots ≡ t → t.room ≤ n → length t.terms ≤ n
+room_enough ts ws spots t n e h =
+    let a : length (tails ts spots) ≡ length t.terms = ap (λ z. length z.terms) e in
+    let b : max (length spots) (length ws) ≡ t.room = ap (λ z. z.room) e in
+    omega (arith, a, b, tails_long ts spots, le-max_left (length spots) (length ws), h)
+
+pub take_front : (n : ℕ) (xs ys : List Bool) → n ≡ length xs → take n (xs ++ ys) ≡ xs
+take_front n xs ys e = take-append-le n xs ys (omega (arith, e)) ∙ ap (λ z. take z xs) e ∙ take-length xs
+
 -- ---- the table that is built
 
-module _ (ts : List Term) (spots : List Spot) (piece : Piece) (t : Term) (i : IsPiece ts spots 1 (length spots) piece t) where
+module _ (ts : List Term) (ws : List (List ℕ)) (spots : List Spot) (piece : Piece) (t : Term) (i : IsPiece ts ws spots 1 (length spots) piece t) where
   other : (q : ℕ) → 1 ≤ q → spot_at (set spots 0 (record { set = record { 0 = 0 }; tail = piece.node; ends = piece.nullable; next = piece.first })) q ≡ spot_at spots q
   other q h = get_or-set_other spots 0 q (record { set = record { 0 = 0 }; tail = piece.node; ends = piece.nullable; next = piece.first }) no_spot (λ (e : q ≡ 0). omega arith)
 
   pub table_made : (all : List Spot) (reps : List ℕ) → all ≡ set spots 0 (record { set = record { 0 = 0 }; tail = piece.node; ends = piece.nullable; next = piece.first }) →
-      AreDistinct ts → length reps ≡ length all → ((p : ℕ) → p < length all → IsRep all p (rep_at reps p)) → IsTable ts all reps
+      AreDistinct ts → length reps ≡ length all → ((p : ℕ) → p < length all → IsRep all p (rep_at reps p)) → IsTable ts ws all reps
   table_made all reps e apart long rep = record {
     long = long;
     some = omega (arith, n, i.order);
     each = λ p h. elim (cases_eq p 0) [
-      | inl z ↦ subst (IsSpot ts all 0 (length all)) (sym z) zero_spot
-      | inr z ↦ spot_kept ts ts spots all 1 (length spots) 0 (length all) p i.each (Extends_refl ts) (λ q a b. ap (λ y. spot_at y q) e ∙ other q a) (omega arith) (omega (arith, n)) (omega (arith, z)) (omega (arith, n))
+      | inl z ↦ subst (IsSpot ts ws all 0 (length all)) (sym z) zero_spot
+      | inr z ↦ spot_kept ts ts ws ws spots all 1 (length spots) 0 (length all) p i.each (Grows_refl ts ws) (λ q a b. ap (λ y. spot_at y q) e ∙ other q a) (omega arith) (omega (arith, n)) (omega (arith, z)) (omega (arith, n))
     ];
     rep = rep;
     apart = apart;
@@ -53,13 +66,14 @@ module _ (ts : List Term) (spots : List Spot) (piece : Piece) (t : Term) (i : Is
       at : term_at ts (spot_at all 0).tail ≡ t
       at = ap (λ y. term_at ts y.tail) here ∙ i.is
 
-      zero_spot : IsSpot ts all 0 (length all) 0
+      zero_spot : IsSpot ts ws all 0 (length all) 0
       zero_spot = record {
         tail = subst (λ y. y.tail < length ts) (sym here) i.node;
         ends = ap (λ y. y.ends) here ∙ i.null ∙ ap nullable (sym at);
-        ways = subst (λ y. AreWays ts all 0 (length all) y (λ b. derive b (term_at ts (spot_at all 0).tail))) (sym (ap (λ y. y.next) here))
-            (subst (λ y. AreWays ts all 0 (length all) piece.first (λ b. derive b y)) (sym at)
-            (ways_kept ts ts spots all 1 (length spots) 0 (length all) piece.first (λ b. derive b t) i.ways (Extends_refl ts)
+        next = subst (λ y. y.next < length ws) (sym here) i.first;
+        ways = subst (λ y. AreWays ts all 0 (length all) y (λ b. derive b (term_at ts (spot_at all 0).tail))) (sym (ap (λ y. list_at ws y.next) here))
+            (subst (λ y. AreWays ts all 0 (length all) (list_at ws piece.first) (λ b. derive b y)) (sym at)
+            (ways_kept ts ts spots all 1 (length spots) 0 (length all) (list_at ws piece.first) (λ b. derive b t) i.ways (Extends_refl ts)
             (λ q a b. (ap (λ y. spot_at y q) e ∙ other q a, (i.each q a b).tail)) (omega arith) (omega (arith, n))));
       }
 
@@ -88,7 +102,7 @@ module _ (ts : List Term) (spots : List Spot) (piece : Piece) (t : Term) (i : Is
 
 -- ---- a step
 
-module _ (ts : List Term) (spots : List Spot) (reps : List ℕ) (table : IsTable ts spots reps) where
+module _ (ts : List Term) (ws : List (List ℕ)) (spots : List Spot) (reps : List ℕ) (table : IsTable ts ws spots reps) where
   pub rep_is : (p : ℕ) → p < length spots → (rep_at reps p < length spots) × (term_at (tails ts spots) (rep_at reps p) ≡ term_at (tails ts spots) p)
   rep_is p h =
       let r : IsRep spots p (rep_at reps p) = table.rep p h in
@@ -102,14 +116,14 @@ module _ (ts : List Term) (spots : List Spot) (reps : List ℕ) (table : IsTable
       r.first j k (table.apart (spot_at spots j).tail (spot_at spots p).tail (table.each j l).tail (table.each p h).tail
       (sym (tails_at ts spots j l) ∙ e ∙ (rep_is p h).1 ∙ tails_at ts spots p h))
 
-  pub step_law : (from to : List Bool) (b : ℕ) → ((j : ℕ) → mark_at to j ≡ true ↔ Fires spots reps b from (length spots) j) →
+  pub step_law : (from to : List Bool) (b : ℕ) → ((j : ℕ) → mark_at to j ≡ true ↔ Fires ws spots reps b from (length spots) j) →
       (all : List Term) → IsMarked (tails ts spots) from all → IsMarked (tails ts spots) to (after b all)
   step_law from to b fires all m = record {
     forth = λ x h.
         let f = Has_unflat (derive b) all x h in
         let g = m.forth f.0 f.1 in
         let l : g.0 < length spots = omega (arith, g.1, tails_long ts spots) in
-        let s : IsSpot ts spots 0 (length spots) g.0 = table.each g.0 l in
+        let s : IsSpot ts ws spots 0 (length spots) g.0 = table.each g.0 l in
         let y : term_at ts (spot_at spots g.0).tail ≡ f.0 = sym (tails_at ts spots g.0 l) ∙ g.3 in
         let w = s.ways.forth b x (subst (λ z. Has (derive b z) x) (sym y) f.2) in
         let q = s.ways.within w.0 w.1 in
@@ -121,7 +135,7 @@ module _ (ts : List Term) (spots : List Spot) (reps : List ℕ) (table : IsTable
         );
     back = λ i h k.
         let f = (fires i).0 k in
-        let s : IsSpot ts spots 0 (length spots) f.0 = table.each f.0 f.1 in
+        let s : IsSpot ts ws spots 0 (length spots) f.0 = table.each f.0 f.1 in
         let q = s.ways.within f.3.0 f.3.1 in
         let r = rep_is f.3.0 q.1 in
         let x : term_at ts (spot_at spots f.3.0).tail ≡ term_at (tails ts spots) i = sym (tails_at ts spots f.3.0 q.1) ∙ sym r.1 ∙ ap (term_at (tails ts spots)) f.3.3 in
@@ -131,7 +145,7 @@ module _ (ts : List Term) (spots : List Spot) (reps : List ℕ) (table : IsTable
         (subst (λ z. Has (derive b z) (term_at (tails ts spots) i)) (sym (tails_at ts spots f.0 f.1)) d);
     first = λ i h k j l e.
         let f = (fires i).0 k in
-        let s : IsSpot ts spots 0 (length spots) f.0 = table.each f.0 f.1 in
+        let s : IsSpot ts ws spots 0 (length spots) f.0 = table.each f.0 f.1 in
         let q = s.ways.within f.3.0 f.3.1 in
         rep_first f.3.0 q.1 j (subst (λ z. j < z) (sym f.3.3) l) (e ∙ ap (term_at (tails ts spots)) (sym f.3.3));
   }
@@ -218,12 +232,16 @@ Has_at (x ∷ xs) k h = elim (cases_eq k 0) [
     step : (j : ℕ) → k ≡ j + 1 → get_or xs j 0 ≡ get_or (x ∷ xs) k 0
     step j e = rw (e, add-one)
 
-pub next_below : (ts : List Term) (spots : List Spot) (reps : List ℕ) → IsTable ts spots reps →
-    (p : ℕ) → p < length spots → (k : ℕ) → k < length (spot_at spots p).next → get_or (spot_at spots p).next k 0 < length spots
-next_below ts spots reps t p h k l = ((t.each p h).ways.within (get_or (spot_at spots p).next k 0) (Has_at (spot_at spots p).next k l)).1
+pub next_within : (ts : List Term) (ws : List (List ℕ)) (spots : List Spot) (reps : List ℕ) → IsTable ts ws spots reps →
+    (p : ℕ) → p < length spots → (spot_at spots p).next < length ws
+next_within ts ws spots reps t p h = (t.each p h).next
 
-pub rep_below : (ts : List Term) (spots : List Spot) (reps : List ℕ) → IsTable ts spots reps → (p : ℕ) → p < length spots → get_or reps p 0 < length spots
-rep_below ts spots reps t p h = let r = t.rep p h in omega (arith, r.low)
+pub next_below : (ts : List Term) (ws : List (List ℕ)) (spots : List Spot) (reps : List ℕ) → IsTable ts ws spots reps →
+    (p q : ℕ) → p < length spots → Has (list_at ws (spot_at spots p).next) q → q < length spots
+next_below ts ws spots reps t p q h k = ((t.each p h).ways.within q k).1
+
+pub rep_below : (ts : List Term) (ws : List (List ℕ)) (spots : List Spot) (reps : List ℕ) → IsTable ts ws spots reps → (p : ℕ) → p < length spots → get_or reps p 0 < length spots
+rep_below ts ws spots reps t p h = let r = t.rep p h in omega (arith, r.low)
 
 -- ---- a row after a text
 

@@ -7,6 +7,7 @@ use Rattle.rx_term.specs.Language.{Has}
 use Rattle.rx_auto.specs.Node.{term_at}
 use Rattle.rx_auto.specs.declared.parts.Spot.{Spot}
 use Rattle.rx_auto.specs.Parts.{spot_at}
+use Rattle.rx_auto.specs.Ways.{list_at}
 
 -- the mark of a place, none past the end
 abbrev pub mark_at : List Bool → ℕ → Bool
@@ -33,5 +34,17 @@ pub record IsMarked (ts : List Term) (row : List Bool) (set : List Term) : Type 
   pub first : (i : ℕ) → i < length ts → mark_at row i ≡ true → (j : ℕ) → j < i → term_at ts j ≡ term_at ts i → ⊥
 
 -- one of the marked positions below n leads to j by the byte
-abbrev pub Fires : List Spot → List ℕ → ℕ → List Bool → ℕ → ℕ → Type 0
-Fires spots reps b from n j = (p : ℕ) × (p < n) × (mark_at from p ≡ true) × Marked spots reps b (spot_at spots p).next j
+abbrev pub Fires : List (List ℕ) → List Spot → List ℕ → ℕ → List Bool → ℕ → ℕ → Type 0
+Fires ws spots reps b from n j = (p : ℕ) × (p < n) × (mark_at from p ≡ true) × Marked spots reps b (list_at ws (spot_at spots p).next) j
+
+-- the list of what comes next behind one of the marked positions below n has the number k
+abbrev pub Enters : List Spot → List Bool → ℕ → ℕ → Type 0
+Enters spots row n k = (p : ℕ) × (p < n) × (mark_at row p ≡ true) × ((spot_at spots p).next ≡ k)
+
+-- j is marked, or one of the marked lists below n leads to it by the byte
+abbrev pub IsDue : List (List ℕ) → List Spot → List ℕ → ℕ → List Bool → List Bool → ℕ → ℕ → Type 0
+IsDue ws spots reps b row nodes n j = (mark_at row j ≡ true) ⊎ ((k : ℕ) × (k < n) × (mark_at nodes k ≡ true) × Marked spots reps b (list_at ws k) j)
+
+-- the marked lists have positions below n alone
+abbrev pub AreWithin : List (List ℕ) → List Bool → ℕ → Type 0
+AreWithin ws nodes n = (k : ℕ) → mark_at nodes k ≡ true → (q : ℕ) → Has (list_at ws k) q → q < n

@@ -1,15 +1,14 @@
 //! The positions of a term, and where each leads.
 
 ghost use Rattle.std.specs.Prelude.{◌≡◌, ◌≤◌, ◌<◌, ◌++◌, ℕ, length, IfOk, OnOk};
-ghost use Rattle.rx_auto.specs.Distinct.{Extends};
 ghost use Rattle.rx_term.specs.declared.terms.Term.{Term};
 ghost use Rattle.rx_term.specs.Term.{cat, alt, star};
-ghost use Rattle.rx_auto.specs.Parts.{spot_at, Joined, IsJoined, Keeps, IsPiece};
+ghost use Rattle.rx_auto.specs.Parts.{spot_at, Grows, Joined, IsJoined, Keeps, IsPiece};
 ghost use Rattle.rx_auto.specs.Layers.{IsNearly};
 
 use crate::dag::{Dag, Node};
 use crate::layers::Layer;
-use crate::thin::thin;
+use crate::ways::{Way, Ways};
 use rx_term::{ByteSet, OutOfMemory, Term};
 use sqlite_items::Items;
 use std::alloc::{AllocError, Global};
@@ -26,8 +25,8 @@ pub struct Spot {
     pub tail: usize,
     /// Whether that derivative has the empty text.
     pub ends: bool,
-    /// The positions that may come next.
-    pub next: Items<u32>,
+    /// The number of the list of the positions that may come next.
+    pub next: usize,
 }
 
 /// A term that was read.
@@ -37,43 +36,35 @@ pub struct Piece {
     pub node: usize,
     /// Whether it has the empty text.
     pub nullable: bool,
-    /// The positions that may come first.
-    pub first: Items<u32>,
+    /// The number of the list of the positions that may come first.
+    pub first: usize,
 }
 
 /// The positions of the terms that were read so far.
 #[derive(Drop)]
 pub struct Parts {
     pub dag: Dag,
+    pub ways: Ways,
     pub spots: Vec<Spot>,
-}
-
-/// Moves copies of the positions to the end.
-fn push_all(next: &mut Items<u32>, more: &[u32]) -> Result<(), OutOfMemory>
-    ensures { OnOk result (next.new ≡ next.old ++ more.now) }
-{
-    for p in more {
-        next.push(*p)?;
-    }
-    Ok(())
 }
 
 /// What is left at the position is joined to the term of the node, which the positions begin.
 fn join_spot(
     dag: &mut Dag,
+    ways: &mut Ways,
     spot: &mut Spot,
     node: usize,
     nullable: bool,
-    first: &[u32],
+    first: usize,
 ) -> Result<(), OutOfMemory>
     requires tail { spot.old.tail < length dag.old }
+    requires next { spot.old.next < length ways.old }
     requires node { node < length dag.old }
-    ensures kept { Extends dag.old dag.new }
-    ensures joined { OnOk result (IsJoined dag.old dag.new node nullable first.now spot.old spot.new) }
+    requires first { first < length ways.old }
+    ensures kept { Grows dag.old ways.old dag.new ways.new }
+    ensures joined { OnOk result (IsJoined dag.old ways.old dag.new ways.new node nullable first spot.old spot.new) }
 {
-    if spot.ends {
-        push_all(&mut spot.next, first)?;
-    }
+    spot.next = ways.join_if(spot.next, first, spot.ends)?;
     spot.ends = spot.ends && nullable;
     if dag.is_empty_term(spot.tail) {
         spot.tail = node;
@@ -83,35 +74,45 @@ fn join_spot(
     Ok(())
 }
 
-/// Joins each position from one up to another.
-fn join_spots(
-    dag: &mut Dag,
-    spots: &mut Vec<Spot>,
-    from: usize,
-    to: usize,
-    node: usize,
-    nullable: bool,
-    first: &[u32],
-) -> Result<(), OutOfMemory>
-    requires order { from ≤ to }
-    requires end { to ≤ length spots.old.items }
-    requires node { node < length dag.old }
-    requires tails { (p : ℕ) → from ≤ p → p < to → (spot_at spots.old.items p).tail < length dag.old }
-    ensures kept { Extends dag.old dag.new }
-    ensures joined { OnOk result (Joined dag.old spots.old.items dag.new spots.new.items from to node nullable first.now) }
-{
-    for p in from..to {
-        join_spot(dag, &mut spots[p], node, nullable, first)?;
+impl Parts {
+    /// Joins each position from one up to another to the piece.
+    fn join_spots(
+        &mut self,
+        from: usize,
+        to: usize,
+        node: usize,
+        nullable: bool,
+        first: usize,
+    ) -> Result<(), OutOfMemory>
+        requires order { from ≤ to }
+        requires end { to ≤ length self.old.spots.items }
+        requires node { node < length self.old.dag }
+        requires first { first < length self.old.ways }
+        requires tails { (p : ℕ) → from ≤ p → p < to → (spot_at self.old.spots.items p).tail < length self.old.dag }
+        requires nexts { (p : ℕ) → from ≤ p → p < to → (spot_at self.old.spots.items p).next < length self.old.ways }
+        ensures kept { Grows self.old.dag self.old.ways self.new.dag self.new.ways }
+        ensures joined { OnOk result (Joined self.old.dag self.old.ways self.old.spots.items self.new.dag self.new.ways self.new.spots.items from to node nullable first) }
+    {
+        for p in from..to {
+            join_spot(
+                &mut self.dag,
+                &mut self.ways,
+                &mut self.spots[p],
+                node,
+                nullable,
+                first,
+            )?;
+        }
+        Ok(())
     }
-    Ok(())
 }
 
 impl Parts {
     /// Reads a term: its positions come after those that stand here. A term may be nested deeply to the right.
     pub fn fill(&mut self, alloc: Global, term: &Term) -> Result<Piece, OutOfMemory>
-        ensures kept { IfOk result (λ _. Extends self.old.dag self.new.dag) }
+        ensures kept { IfOk result (λ _. Grows self.old.dag self.old.ways self.new.dag self.new.ways) }
         ensures before { IfOk result (λ _. Keeps (length self.old.spots.items) self.old.spots.items self.new.spots.items) }
-        ensures piece { IfOk result (λ piece. IsPiece self.new.dag self.new.spots.items (length self.old.spots.items) (length self.new.spots.items) piece term.now) }
+        ensures piece { IfOk result (λ piece. IsPiece self.new.dag self.new.ways self.new.spots.items (length self.old.spots.items) (length self.new.spots.items) piece term.now) }
     {
         let low = self.spots.len();
         let mut layers = Items::new(alloc);
@@ -120,16 +121,16 @@ impl Parts {
             let from = self.spots.len();
             match rest {
                 Term::Nothing => {
-                    let piece = self.fill_nothing(alloc)?;
-                    return self.close(alloc, low, layers, piece, term);
+                    let piece = self.fill_nothing()?;
+                    return self.close(low, layers, piece, term);
                 }
                 Term::Empty => {
-                    let piece = self.fill_empty(alloc)?;
-                    return self.close(alloc, low, layers, piece, term);
+                    let piece = self.fill_empty()?;
+                    return self.close(low, layers, piece, term);
                 }
                 Term::One(set) => {
-                    let piece = self.fill_one(alloc, *set)?;
-                    return self.close(alloc, low, layers, piece, term);
+                    let piece = self.fill_one(*set)?;
+                    return self.close(low, layers, piece, term);
                 }
                 Term::Cat(first, second) => {
                     let left = self.fill(alloc, first.get())?;
@@ -154,58 +155,59 @@ impl Parts {
     /// Closes the layers around the piece that was read last, from the innermost one.
     fn close(
         &mut self,
-        alloc: Global,
         low: usize,
         mut layers: Items<Layer>,
         mut piece: Piece,
         term: &Term,
     ) -> Result<Piece, OutOfMemory>
-        requires { IsNearly self.old.dag self.old.spots.items low layers piece term.now }
-        ensures kept { IfOk result (λ _. Extends self.old.dag self.new.dag) }
+        requires { IsNearly self.old.dag self.old.ways self.old.spots.items low layers piece term.now }
+        ensures kept { IfOk result (λ _. Grows self.old.dag self.old.ways self.new.dag self.new.ways) }
         ensures before { IfOk result (λ _. Keeps low self.old.spots.items self.new.spots.items) }
         ensures long { IfOk result (λ _. length self.new.spots.items ≡ length self.old.spots.items) }
-        ensures piece { IfOk result (λ piece. IsPiece self.new.dag self.new.spots.items low (length self.new.spots.items) piece term.now) }
+        ensures piece { IfOk result (λ piece. IsPiece self.new.dag self.new.ways self.new.spots.items low (length self.new.spots.items) piece term.now) }
     {
         while let Some(layer) = layers.pop() {
             piece = match layer {
                 Layer::Row { from, to, left } => self.cat(from, to, left, piece)?,
                 Layer::Choice { from, to, left } => self.alt(from, to, left, piece)?,
-                Layer::Loop { from } => self.star(alloc, from, piece)?,
+                Layer::Loop { from } => self.star(from, piece)?,
             };
         }
         Ok(piece)
     }
 
-    fn fill_nothing(&mut self, alloc: Global) -> Result<Piece, OutOfMemory>
-        ensures kept { IfOk result (λ _. Extends self.old.dag self.new.dag) }
+    fn fill_nothing(&mut self) -> Result<Piece, OutOfMemory>
+        ensures kept { IfOk result (λ _. Grows self.old.dag self.old.ways self.new.dag self.new.ways) }
         ensures same { IfOk result (λ _. self.new.spots.items ≡ self.old.spots.items) }
-        ensures piece { IfOk result (λ piece. IsPiece self.new.dag self.new.spots.items (length self.old.spots.items) (length self.new.spots.items) piece Term.Nothing) }
+        ensures piece { IfOk result (λ piece. IsPiece self.new.dag self.new.ways self.new.spots.items (length self.old.spots.items) (length self.new.spots.items) piece Term.Nothing) }
     {
         let node = self.dag.add(Node::Nothing)?;
+        let first = self.ways.add(Way::Nowhere)?;
         Ok(Piece {
             node,
             nullable: false,
-            first: Items::new(alloc),
+            first,
         })
     }
 
-    fn fill_empty(&mut self, alloc: Global) -> Result<Piece, OutOfMemory>
-        ensures kept { IfOk result (λ _. Extends self.old.dag self.new.dag) }
+    fn fill_empty(&mut self) -> Result<Piece, OutOfMemory>
+        ensures kept { IfOk result (λ _. Grows self.old.dag self.old.ways self.new.dag self.new.ways) }
         ensures same { IfOk result (λ _. self.new.spots.items ≡ self.old.spots.items) }
-        ensures piece { IfOk result (λ piece. IsPiece self.new.dag self.new.spots.items (length self.old.spots.items) (length self.new.spots.items) piece Term.Empty) }
+        ensures piece { IfOk result (λ piece. IsPiece self.new.dag self.new.ways self.new.spots.items (length self.old.spots.items) (length self.new.spots.items) piece Term.Empty) }
     {
         let node = self.dag.add(Node::Empty)?;
+        let first = self.ways.add(Way::Nowhere)?;
         Ok(Piece {
             node,
             nullable: true,
-            first: Items::new(alloc),
+            first,
         })
     }
 
-    fn fill_one(&mut self, alloc: Global, set: ByteSet) -> Result<Piece, OutOfMemory>
-        ensures kept { IfOk result (λ _. Extends self.old.dag self.new.dag) }
+    fn fill_one(&mut self, set: ByteSet) -> Result<Piece, OutOfMemory>
+        ensures kept { IfOk result (λ _. Grows self.old.dag self.old.ways self.new.dag self.new.ways) }
         ensures before { IfOk result (λ _. Keeps (length self.old.spots.items) self.old.spots.items self.new.spots.items) }
-        ensures piece { IfOk result (λ piece. IsPiece self.new.dag self.new.spots.items (length self.old.spots.items) (length self.new.spots.items) piece (Term.One set)) }
+        ensures piece { IfOk result (λ piece. IsPiece self.new.dag self.new.ways self.new.spots.items (length self.old.spots.items) (length self.new.spots.items) piece (Term.One set)) }
     {
         let tail = self.dag.add(Node::Empty)?;
         let node = self.dag.add(Node::One(set))?;
@@ -213,13 +215,13 @@ impl Parts {
         if place >= MOST {
             return Err(AllocError);
         }
-        let mut first = Items::new(alloc);
-        first.push(place as u32)?;
+        let next = self.ways.add(Way::Nowhere)?;
+        let first = self.ways.add(Way::At(place as u32))?;
         self.spots.push(Spot {
             set,
             tail,
             ends: true,
-            next: Items::new(alloc),
+            next,
         })?;
         Ok(Piece {
             node,
@@ -235,36 +237,21 @@ impl Parts {
         left: Piece,
         right: Piece,
     ) -> Result<Piece, OutOfMemory>
-        requires left { (s : Term) × IsPiece self.old.dag self.old.spots.items from to left s }
-        requires right { (u : Term) × IsPiece self.old.dag self.old.spots.items to (length self.old.spots.items) right u }
-        ensures kept { IfOk result (λ _. Extends self.old.dag self.new.dag) }
+        requires left { (s : Term) × IsPiece self.old.dag self.old.ways self.old.spots.items from to left s }
+        requires right { (u : Term) × IsPiece self.old.dag self.old.ways self.old.spots.items to (length self.old.spots.items) right u }
+        ensures kept { IfOk result (λ _. Grows self.old.dag self.old.ways self.new.dag self.new.ways) }
         ensures before { IfOk result (λ _. Keeps from self.old.spots.items self.new.spots.items) }
         ensures long { IfOk result (λ _. length self.new.spots.items ≡ length self.old.spots.items) }
-        ensures piece { IfOk result (λ piece. (s u : Term) → IsPiece self.old.dag self.old.spots.items from to left s
-            → IsPiece self.old.dag self.old.spots.items to (length self.old.spots.items) right u
-            → IsPiece self.new.dag self.new.spots.items from (length self.old.spots.items) piece (cat s u)) }
+        ensures piece { IfOk result (λ piece. (s u : Term) → IsPiece self.old.dag self.old.ways self.old.spots.items from to left s
+            → IsPiece self.old.dag self.old.ways self.old.spots.items to (length self.old.spots.items) right u
+            → IsPiece self.new.dag self.new.ways self.new.spots.items from (length self.old.spots.items) piece (cat s u)) }
     {
-        let Piece {
-            node,
-            nullable,
-            mut first,
-        } = left;
-        let whole = self.dag.add(Node::Cat(node, right.node))?;
-        join_spots(
-            &mut self.dag,
-            &mut self.spots,
-            from,
-            to,
-            right.node,
-            right.nullable,
-            right.first.as_slice(),
-        )?;
-        if nullable {
-            push_all(&mut first, right.first.as_slice())?;
-        }
+        let whole = self.dag.add(Node::Cat(left.node, right.node))?;
+        self.join_spots(from, to, right.node, right.nullable, right.first)?;
+        let first = self.ways.join_if(left.first, right.first, left.nullable)?;
         Ok(Piece {
             node: whole,
-            nullable: nullable && right.nullable,
+            nullable: left.nullable && right.nullable,
             first,
         })
     }
@@ -276,58 +263,39 @@ impl Parts {
         left: Piece,
         right: Piece,
     ) -> Result<Piece, OutOfMemory>
-        requires left { (s : Term) × IsPiece self.old.dag self.old.spots.items from to left s }
-        requires right { (u : Term) × IsPiece self.old.dag self.old.spots.items to (length self.old.spots.items) right u }
-        ensures kept { IfOk result (λ _. Extends self.old.dag self.new.dag) }
+        requires left { (s : Term) × IsPiece self.old.dag self.old.ways self.old.spots.items from to left s }
+        requires right { (u : Term) × IsPiece self.old.dag self.old.ways self.old.spots.items to (length self.old.spots.items) right u }
+        ensures kept { IfOk result (λ _. Grows self.old.dag self.old.ways self.new.dag self.new.ways) }
         ensures before { IfOk result (λ _. Keeps from self.old.spots.items self.new.spots.items) }
         ensures long { IfOk result (λ _. length self.new.spots.items ≡ length self.old.spots.items) }
-        ensures piece { IfOk result (λ piece. (s u : Term) → IsPiece self.old.dag self.old.spots.items from to left s
-            → IsPiece self.old.dag self.old.spots.items to (length self.old.spots.items) right u
-            → IsPiece self.new.dag self.new.spots.items from (length self.old.spots.items) piece (alt s u)) }
+        ensures piece { IfOk result (λ piece. (s u : Term) → IsPiece self.old.dag self.old.ways self.old.spots.items from to left s
+            → IsPiece self.old.dag self.old.ways self.old.spots.items to (length self.old.spots.items) right u
+            → IsPiece self.new.dag self.new.ways self.new.spots.items from (length self.old.spots.items) piece (alt s u)) }
     {
-        let Piece {
-            node,
-            nullable,
-            mut first,
-        } = left;
-        let whole = self.dag.add(Node::Alt(node, right.node))?;
-        push_all(&mut first, right.first.as_slice())?;
+        let whole = self.dag.add(Node::Alt(left.node, right.node))?;
+        let first = self.ways.join(left.first, right.first)?;
         Ok(Piece {
             node: whole,
-            nullable: nullable || right.nullable,
+            nullable: left.nullable || right.nullable,
             first,
         })
     }
 
-    fn star(&mut self, alloc: Global, from: usize, body: Piece) -> Result<Piece, OutOfMemory>
-        requires body { (s : Term) × IsPiece self.old.dag self.old.spots.items from (length self.old.spots.items) body s }
-        ensures kept { IfOk result (λ _. Extends self.old.dag self.new.dag) }
+    fn star(&mut self, from: usize, body: Piece) -> Result<Piece, OutOfMemory>
+        requires body { (s : Term) × IsPiece self.old.dag self.old.ways self.old.spots.items from (length self.old.spots.items) body s }
+        ensures kept { IfOk result (λ _. Grows self.old.dag self.old.ways self.new.dag self.new.ways) }
         ensures before { IfOk result (λ _. Keeps from self.old.spots.items self.new.spots.items) }
         ensures long { IfOk result (λ _. length self.new.spots.items ≡ length self.old.spots.items) }
-        ensures piece { IfOk result (λ piece. (s : Term) → IsPiece self.old.dag self.old.spots.items from (length self.old.spots.items) body s
-            → IsPiece self.new.dag self.new.spots.items from (length self.old.spots.items) piece (star s)) }
+        ensures piece { IfOk result (λ piece. (s : Term) → IsPiece self.old.dag self.old.ways self.old.spots.items from (length self.old.spots.items) body s
+            → IsPiece self.new.dag self.new.ways self.new.spots.items from (length self.old.spots.items) piece (star s)) }
     {
-        let Piece {
-            node,
-            nullable: _,
-            first,
-        } = body;
-        let whole = self.dag.add(Node::Star(node))?;
+        let whole = self.dag.add(Node::Star(body.node))?;
         let to = self.spots.len();
-        join_spots(
-            &mut self.dag,
-            &mut self.spots,
-            from,
-            to,
-            whole,
-            true,
-            first.as_slice(),
-        )?;
-        thin(alloc, &mut self.spots, from, to)?;
+        self.join_spots(from, to, whole, true, body.first)?;
         Ok(Piece {
             node: whole,
             nullable: true,
-            first,
+            first: body.first,
         })
     }
 }

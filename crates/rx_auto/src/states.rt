@@ -6,28 +6,28 @@ use rx_term::OutOfMemory;
 use std::alloc::Global;
 use std::marker::Model;
 
-/// A set of the derivatives of a table, as a row of marks.
+/// A set of the derivatives of a table, as a row of marks, and room for the marks of a step.
 #[derive(Drop)]
 pub struct StateSet {
     pub(crate) row: Vec<bool>,
-    pub(crate) spare: Vec<bool>,
+    pub(crate) nodes: Vec<bool>,
 }
 
+/// Contracts see a set as its row of marks and the room of a step.
 impl Model for StateSet {
-    ghost use Rattle.std.specs.Prelude.{◌≡◌, List, Bool, length};
+    ghost use Rattle.std.specs.Prelude.{length};
+    ghost use Rattle.rx_auto.specs.Table.{StateMeaning};
 
-    ghost Value = { List Bool };
+    ghost Value = { StateMeaning };
 
-    ghost view = { λ s. s.row.items };
-
-    ghost invariant = { λ s. length s.spare.items ≡ length s.row.items };
+    ghost view = { λ s. record { marks = s.row.items; room = length s.nodes.items } };
 }
 
-/// Room for two rows of marks.
+/// Room for two rows of marks: of the positions, and of the nodes of their ways.
 #[derive(Drop)]
 pub struct Scratch {
     pub(crate) row: Vec<bool>,
-    pub(crate) spare: Vec<bool>,
+    pub(crate) nodes: Vec<bool>,
 }
 
 impl Model for Scratch {
@@ -37,17 +37,17 @@ impl Model for Scratch {
 
     ghost view = { λ s. length s.row.items };
 
-    ghost invariant = { λ s. (length s.spare.items ≡ length s.row.items) × (length s.row.items < 2 ^ 32) };
+    ghost invariant = { λ s. (length s.nodes.items ≡ length s.row.items) × (length s.row.items < 2 ^ 32) };
 }
 
 impl Scratch {
-    /// Room for state sets of so many positions.
+    /// Room for state sets of tables that need so much.
     pub fn new(alloc: Global, room: u32) -> Result<Scratch, OutOfMemory>
         ensures { IfOk result (λ s. s ≡ room) }
     {
         Ok(Scratch {
             row: vec![in alloc; false; room as usize]?,
-            spare: vec![in alloc; false; room as usize]?,
+            nodes: vec![in alloc; false; room as usize]?,
         })
     }
 
@@ -62,7 +62,7 @@ impl Scratch {
 impl StateSet {
     /// Whether two sets of one table are the same. Takes no memory.
     pub fn same(&self, other: &StateSet) -> bool
-        ensures { IsTrue result ↔ (self.now ≡ other.now) }
+        ensures { IsTrue result ↔ (self.now.marks ≡ other.now.marks) }
     {
         self.row == other.row
     }
@@ -73,7 +73,7 @@ impl StateSet {
     {
         Ok(StateSet {
             row: Vec::from_slice(alloc, &self.row)?,
-            spare: Vec::from_slice(alloc, &self.spare)?,
+            nodes: Vec::from_slice(alloc, &self.nodes)?,
         })
     }
 }

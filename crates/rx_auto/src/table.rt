@@ -14,9 +14,9 @@ use crate::live::put_ways;
 use crate::marks::{advance, clear};
 use crate::parts::{MOST, Parts, Spot};
 use crate::states::{Scratch, StateSet};
+use crate::ways::Ways;
 use rx_class::{Classes, add_sets};
 use rx_term::{ByteSet, OutOfMemory, Term};
-use sqlite_items::Items;
 use std::alloc::{AllocError, Global};
 use std::marker::Model;
 
@@ -24,27 +24,25 @@ use std::marker::Model;
 #[derive(Drop)]
 pub struct Table {
     dag: Dag,
+    ways: Ways,
     spots: Vec<Spot>,
     reps: Vec<u32>,
     classes: Classes,
 }
 
-/// Contracts see a table as the list of the derivatives, its own term first.
+/// Contracts see a table as the list of the derivatives, its own term first, and the room of a step.
 impl Model for Table {
-    ghost use Rattle.std.specs.Prelude.{List};
-    ghost use Rattle.rx_term.specs.declared.terms.Term.{Term};
+    ghost use Rattle.std.specs.Coded.{codes};
     ghost use Rattle.rx_term.specs.contracts.terms.Term as of_term;
-    ghost use Rattle.std.specs.Coded.{coded_list};
+    ghost use Rattle.rx_auto.specs.Table.{TableMeaning, meaning_of, IsWhole};
 
-    ghost Value = { List Term };
+    ghost Value = { TableMeaning };
 
-    ghost coded = { coded_list of_term.the_row.coded };
+    ghost coded = { Prim.hlevel (codes, of_term.the_row.coded) };
 
-    ghost use Rattle.rx_auto.specs.Table.{tails, IsWhole};
+    ghost view = { λ t. meaning_of t.dag t.ways t.spots.items };
 
-    ghost view = { λ t. tails t.dag t.spots.items };
-
-    ghost invariant = { λ t. IsWhole t.dag t.spots.items t.reps.items t.classes.firsts t.classes.numbers };
+    ghost invariant = { λ t. IsWhole t.dag t.ways t.spots.items t.reps.items t.classes.firsts t.classes.numbers };
 }
 
 /// The classes of the bytes under the sets of a term.
@@ -57,29 +55,34 @@ fn classes_of(alloc: Global, term: &Term) -> Result<Classes, OutOfMemory>
 }
 
 impl Table {
-    /// The table of a term. More than 4,294,967,295 positions are answered as want of memory.
+    /// The table of a term. More than 4,294,967,295 positions, or nodes of their ways, are answered as want of memory.
     pub fn build(alloc: Global, term: &Term) -> Result<Table, OutOfMemory>
-        ensures { IfOk result (λ t. (0 < length t) × (term_at t 0 ≡ term.now)) }
+        ensures { IfOk result (λ t. (0 < length t.terms) × (term_at t.terms 0 ≡ term.now)) }
     {
         let mut parts = Parts {
             dag: Dag::new(alloc),
+            ways: Ways::new(alloc),
             spots: Vec::new(alloc),
         };
         parts.spots.push(Spot {
             set: ByteSet(0),
             tail: 0,
             ends: false,
-            next: Items::new(alloc),
+            next: 0,
         })?;
         let piece = parts.fill(alloc, term)?;
-        let Parts { dag, mut spots } = parts;
+        let Parts {
+            dag,
+            ways,
+            mut spots,
+        } = parts;
         spots[0] = Spot {
             set: ByteSet(0),
             tail: piece.node,
             ends: piece.nullable,
             next: piece.first,
         };
-        if spots.len() > MOST {
+        if spots.len() > MOST || ways.len() > MOST {
             return Err(AllocError);
         }
         dag.known();
@@ -87,22 +90,23 @@ impl Table {
         let classes = classes_of(alloc, term)?;
         Ok(Table {
             dag,
+            ways,
             spots,
             reps,
             classes,
         })
     }
 
-    /// The room that `matches` needs, one for each position. Takes no memory.
+    /// The room that a step needs: a mark for each position and for each node of their ways. Takes no memory.
     pub fn room(&self) -> u32
-        ensures { result ≡ length self.now }
+        ensures { result ≡ self.now.room }
     {
-        self.spots.len() as u32
+        self.spots.len().max(self.ways.len()) as u32
     }
 
     /// How many classes of bytes there are. Takes no memory.
     pub fn classes(&self) -> u8
-        ensures count { IsClassCount (sets_of (term_at self.now 0)) result }
+        ensures count { IsClassCount (sets_of (term_at self.now.terms 0)) result }
         ensures few { result ≤ 129 }
     {
         self.classes.count()
@@ -110,37 +114,39 @@ impl Table {
 
     /// The class of a byte. Two bytes of one class lead from each state to the same state. Takes no memory.
     pub fn class_of(&self, byte: u8) -> u8
-        ensures { IsClassOf (sets_of (term_at self.now 0)) byte result }
+        ensures { IsClassOf (sets_of (term_at self.now.terms 0)) byte result }
     {
         self.classes.class_of(byte)
     }
 
     /// The state after the empty word: the term alone.
     pub fn start(&self, alloc: Global) -> Result<StateSet, OutOfMemory>
-        ensures { IfOk result (λ s. (length s ≡ length self.now) × IsMarked self.now s (term_at self.now 0 ∷ [])) }
+        ensures { IfOk result (λ s. (length s.marks ≡ length self.now.terms) × (s.room ≡ self.now.room)
+            × IsMarked self.now.terms s.marks (term_at self.now.terms 0 ∷ [])) }
     {
         let mut row = vec![in alloc; false; self.spots.len()]?;
         row[0] = true;
         Ok(StateSet {
             row,
-            spare: vec![in alloc; false; self.spots.len()]?,
+            nodes: vec![in alloc; false; self.room() as usize]?,
         })
     }
 
     /// The state after one more byte. Takes no memory.
     pub fn step(&self, state: &mut StateSet, byte: u8)
-        requires { length state.old ≡ length self.now }
-        ensures room { length state.new ≡ length self.now }
-        ensures state { (set : List Term) → IsMarked self.now state.old set → IsMarked self.now state.new (after byte set) }
+        requires row { length state.old.marks ≡ length self.now.terms }
+        requires room { state.old.room ≡ self.now.room }
+        ensures row { length state.new.marks ≡ length self.now.terms }
+        ensures room { state.new.room ≡ self.now.room }
+        ensures state { (set : List Term) → IsMarked self.now.terms state.old.marks set → IsMarked self.now.terms state.new.marks (after byte set) }
     {
-        self.shift(&state.row, &mut state.spare, byte);
-        std::mem::swap(&mut state.row, &mut state.spare);
+        self.shift(&mut state.row, &mut state.nodes, byte);
     }
 
     /// Whether one of the marked derivatives has the empty text.
     fn ends(&self, row: &[bool]) -> bool
-        requires { length self.now ≤ length row.now }
-        ensures { (set : List Term) → IsMarked self.now row.now set → (IsTrue result ↔ (accepting set ≡ true)) }
+        requires { length self.now.terms ≤ length row.now }
+        ensures { (set : List Term) → IsMarked self.now.terms row.now set → (IsTrue result ↔ (accepting set ≡ true)) }
     {
         for (p, spot) in self.spots.iter().enumerate() {
             if row[p] && spot.ends {
@@ -152,16 +158,16 @@ impl Table {
 
     /// Whether the empty text is in one of the set's terms. Takes no memory.
     pub fn accepts(&self, state: &StateSet) -> bool
-        requires { length state.now ≡ length self.now }
-        ensures { (set : List Term) → IsMarked self.now state.now set → (IsTrue result ↔ (accepting set ≡ true)) }
+        requires { length state.now.marks ≡ length self.now.terms }
+        ensures { (set : List Term) → IsMarked self.now.terms state.now.marks set → (IsTrue result ↔ (accepting set ≡ true)) }
     {
         self.ends(&state.row)
     }
 
     /// Marks the table's own term alone.
     fn begin(&self, row: &mut [bool])
-        requires { length self.now ≤ length row.old }
-        ensures { IsMarked self.now row.new (term_at self.now 0 ∷ []) }
+        requires { length self.now.terms ≤ length row.old }
+        ensures { IsMarked self.now.terms row.new (term_at self.now.terms 0 ∷ []) }
     {
         clear(row);
         let n = self.spots.len();
@@ -171,24 +177,24 @@ impl Table {
     }
 
     /// Marks what a byte leads to.
-    fn shift(&self, from: &[bool], to: &mut [bool], byte: u8)
-        requires from { length self.now ≤ length from.now }
-        requires to { length self.now ≤ length to.old }
-        ensures { (set : List Term) → IsMarked self.now from.now set → IsMarked self.now to.new (after byte set) }
+    fn shift(&self, row: &mut [bool], nodes: &mut [bool], byte: u8)
+        requires row { length self.now.terms ≤ length row.old }
+        requires nodes { self.now.room ≤ length nodes.old }
+        ensures { (set : List Term) → IsMarked self.now.terms row.old set → IsMarked self.now.terms row.new (after byte set) }
     {
-        advance(&self.spots, &self.reps, from, to, byte);
+        advance(&self.ways, &self.spots, &self.reps, nodes, row, byte);
     }
 
     /// Whether the text is in the term. Takes no memory.
     pub fn matches(&self, text: &[u8], scratch: &mut Scratch) -> bool
-        requires { length self.now ≤ scratch.old }
+        requires { self.now.room ≤ scratch.old }
         ensures room { scratch.new ≡ scratch.old }
-        ensures is_in { IsTrue result ↔ In text.now (term_at self.now 0) }
+        ensures is_in { IsTrue result ↔ In text.now (term_at self.now.terms 0) }
     {
+        let _ = &self.spots;
         self.begin(&mut scratch.row);
         for b in text {
-            self.shift(&scratch.row, &mut scratch.spare, *b);
-            std::mem::swap(&mut scratch.row, &mut scratch.spare);
+            self.shift(&mut scratch.row, &mut scratch.nodes, *b);
         }
         self.ends(&scratch.row)
     }
@@ -203,32 +209,27 @@ impl Table {
         base: u64,
         to: &mut Vec<u64>,
     ) -> Result<(), OutOfMemory>
-        requires place { place < length self.now }
-        requires room { base + length self.now ≤ 2 ^ 64 }
+        requires place { place < length self.now.terms }
+        requires room { base + length self.now.terms ≤ 2 ^ 64 }
         requires ascending { IsAscending to.old.items }
-        ensures { OnOk result (AddsNumbers to.old.items to.new.items (IsBehind self.now place byte base)) }
+        ensures { OnOk result (AddsNumbers to.old.items to.new.items (IsBehind self.now.terms place byte base)) }
     {
-        put_ways(
-            &self.spots,
-            &self.reps,
-            self.spots[place as usize].next.as_slice(),
-            byte,
-            base,
-            to,
-        )
+        let next = self.spots[place as usize].next;
+        let ps = self.ways.spread(*to.allocator(), next)?;
+        put_ways(&self.spots, &self.reps, ps.as_slice(), byte, base, to)
     }
 
     /// Whether the empty text is in the term of a place.
     pub fn ends_at(&self, place: u32) -> bool
-        requires { place < length self.now }
-        ensures { result ≡ nullable (term_at self.now place) }
+        requires { place < length self.now.terms }
+        ensures { result ≡ nullable (term_at self.now.terms place) }
     {
         self.spots[place as usize].ends
     }
 
     /// Each partial derivative has a place.
     pub fn known(&self)
-        ensures { HasPlaces self.now }
+        ensures { HasPlaces self.now.terms }
     {
         let _ = &self.spots;
     }

@@ -106,7 +106,7 @@ fn places_lead_to_places(rt: HostRuntime) -> Result<(), Fail> {
 #[test]
 fn stars_over_stars_stay_small(rt: HostRuntime) -> Result<(), Fail> {
     let table = Table::build(rt.alloc(), &starred(rt.alloc(), 300, 60)?)?;
-    assert_eq!(rt; table.room(), 301);
+    assert_eq!(rt; table.room(), 898);
     let mut scratch = Scratch::new(rt.alloc(), table.room())?;
     assert!(rt; table.matches(b"abcabcabc", &mut scratch));
     assert!(rt; !table.matches(b"abcd", &mut scratch));
@@ -123,5 +123,16 @@ fn long_rows_need_no_deep_stack(rt: HostRuntime) -> Result<(), Fail> {
     }
     let table = Table::build(rt.alloc(), &row)?;
     assert_eq!(rt; table.room(), 100_001);
+    Ok(())
+}
+
+#[test]
+fn rows_of_optional_letters_match(rt: HostRuntime) -> Result<(), Fail> {
+    let table = Table::build(rt.alloc(), &starred(rt.alloc(), 600, 0)?)?;
+    let mut scratch = Scratch::new(rt.alloc(), table.room())?;
+    let mut text = vec![in rt.alloc(); b'a'; 600]?;
+    assert!(rt; table.matches(&text, &mut scratch));
+    text.push(b'a')?;
+    assert!(rt; !table.matches(&text, &mut scratch));
     Ok(())
 }
