@@ -116,7 +116,7 @@ module _ (ts : List Term) (ws : List (List ℕ)) (spots : List Spot) (reps : Lis
       r.first j k (table.apart (spot_at spots j).tail (spot_at spots p).tail (table.each j l).tail (table.each p h).tail
       (sym (tails_at ts spots j l) ∙ e ∙ (rep_is p h).1 ∙ tails_at ts spots p h))
 
-  pub step_law : (from to : List Bool) (b : ℕ) → ((j : ℕ) → mark_at to j ≡ true ↔ Fires ws spots reps b from (length spots) j) →
+  pub step_law : (from to : List Bool) (b : ℕ) → ((j : ℕ) → j < length spots → (mark_at to j ≡ true ↔ Fires ws spots reps b from (length spots) j)) →
       (all : List Term) → IsMarked (tails ts spots) from all → IsMarked (tails ts spots) to (after b all)
   step_law from to b fires all m = record {
     forth = λ x h.
@@ -130,11 +130,11 @@ module _ (ts : List Term) (ws : List (List ℕ)) (spots : List Spot) (reps : Lis
         let r = rep_is w.0 q.1 in (
           rep_at reps w.0,
           omega (arith, r.0, tails_long ts spots),
-          (fires (rep_at reps w.0)).1 (g.0, l, g.2, (w.0, w.1, w.2, refl)),
+          (fires (rep_at reps w.0) r.0).1 (g.0, l, g.2, (w.0, w.1, w.2, refl)),
           r.1 ∙ tails_at ts spots w.0 q.1 ∙ w.3,
         );
     back = λ i h k.
-        let f = (fires i).0 k in
+        let f = (fires i (omega (arith, h, tails_long ts spots))).0 k in
         let s : IsSpot ts ws spots 0 (length spots) f.0 = table.each f.0 f.1 in
         let q = s.ways.within f.3.0 f.3.1 in
         let r = rep_is f.3.0 q.1 in
@@ -144,7 +144,7 @@ module _ (ts : List Term) (ws : List (List ℕ)) (spots : List Spot) (reps : Lis
         (m.back f.0 (omega (arith, f.1, tails_long ts spots)) f.2)
         (subst (λ z. Has (derive b z) (term_at (tails ts spots) i)) (sym (tails_at ts spots f.0 f.1)) d);
     first = λ i h k j l e.
-        let f = (fires i).0 k in
+        let f = (fires i (omega (arith, h, tails_long ts spots))).0 k in
         let s : IsSpot ts ws spots 0 (length spots) f.0 = table.each f.0 f.1 in
         let q = s.ways.within f.3.0 f.3.1 in
         rep_first f.3.0 q.1 j (subst (λ z. j < z) (sym f.3.3) l) (e ∙ ap (term_at (tails ts spots)) (sym f.3.3));
@@ -166,19 +166,19 @@ module _ (ts : List Term) (ws : List (List ℕ)) (spots : List Spot) (reps : Lis
 
 -- ---- the first state, and equal states
 
-pub start_marked : (ts : List Term) (row : List Bool) → 0 < length ts → mark_at row 0 ≡ true → ((i : ℕ) → 0 < i → mark_at row i ≡ false) → IsMarked ts row (term_at ts 0 ∷ [])
+pub start_marked : (ts : List Term) (row : List Bool) → 0 < length ts → mark_at row 0 ≡ true → ((i : ℕ) → 0 < i → i < length ts → mark_at row i ≡ false) → IsMarked ts row (term_at ts 0 ∷ [])
 start_marked ts row h one none = record {
   forth = λ x k. elim k [ inl e ↦ (0, h, one, e) | inr z ↦ absurd z ];
-  back = λ i l k. inl (ap (term_at ts) (is_zero i k (cases_eq i 0)));
-  first = λ i l k j m e. absurd (low i j m (is_zero i k (cases_eq i 0)));
+  back = λ i l k. inl (ap (term_at ts) (is_zero i l k (cases_eq i 0)));
+  first = λ i l k j m e. absurd (low i j m (is_zero i l k (cases_eq i 0)));
 }
   where
     clash : false ≡ true → ⊥
     clash k = cc
 
-    is_zero : (i : ℕ) → mark_at row i ≡ true → (i ≡ 0) ⊎ (i ≡ 0 → ⊥) → 0 ≡ i
-    is_zero i k (inl e) = sym e
-    is_zero i k (inr e) = absurd (clash (sym (none i (omega (arith, e))) ∙ k))
+    is_zero : (i : ℕ) → i < length ts → mark_at row i ≡ true → (i ≡ 0) ⊎ (i ≡ 0 → ⊥) → 0 ≡ i
+    is_zero i l k (inl e) = sym e
+    is_zero i l k (inr e) = absurd (clash (sym (none i (omega (arith, e)) l) ∙ k))
 
     low : (i j : ℕ) → j < i → 0 ≡ i → ⊥
     low i j m e = omega arith
@@ -248,6 +248,6 @@ rep_below ts ws spots reps t p h = let r = t.rep p h in omega (arith, r.low)
 pub taken_more : (t : Term) (text : List ℕ) (i : ℕ) → i < length text → state t (take (i + 1) text) ≡ after (get_or text i 0) (state t (take i text))
 taken_more t text i h = ap (state t) (take_more text i 0 h) ∙ state_push t (take i text) (get_or text i 0)
 
-pub begun : (ts : List Term) (row : List Bool) → 0 < length ts → length ts ≤ length row → ((i : ℕ) → mark_at row i ≡ false) → IsMarked ts (set row 0 true) (term_at ts 0 ∷ [])
+pub begun : (ts : List Term) (row : List Bool) → 0 < length ts → length ts ≤ length row → ((i : ℕ) → i < length ts → mark_at row i ≡ false) → IsMarked ts (set row 0 true) (term_at ts 0 ∷ [])
 begun ts row h l none = start_marked ts (set row 0 true) h (get_or-set_same row 0 true false (omega arith))
-    (λ i k. get_or-set_other row 0 i true false (λ (e : i ≡ 0). omega arith) ∙ none i)
+    (λ i k g. get_or-set_other row 0 i true false (λ (e : i ≡ 0). omega arith) ∙ none i g)

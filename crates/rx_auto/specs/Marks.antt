@@ -47,4 +47,4 @@ IsDue ws spots reps b row nodes n j = (mark_at row j ≡ true) ⊎ ((k : ℕ) ×
 
 -- the marked lists have positions below n alone
 abbrev pub AreWithin : List (List ℕ) → List Bool → ℕ → Type 0
-AreWithin ws nodes n = (k : ℕ) → mark_at nodes k ≡ true → (q : ℕ) → Has (list_at ws k) q → q < n
+AreWithin ws nodes n = (k : ℕ) → k < length ws → mark_at nodes k ≡ true → (q : ℕ) → Has (list_at ws k) q → q < n

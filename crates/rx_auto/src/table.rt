@@ -99,7 +99,8 @@ impl Table {
 
     /// The room that a step needs: a mark for each position and for each node of their ways. Takes no memory.
     pub fn room(&self) -> u32
-        ensures { result ≡ self.now.room }
+        ensures room { result ≡ self.now.room }
+        ensures enough { length self.now.terms ≤ result }
     {
         self.spots.len().max(self.ways.len()) as u32
     }
@@ -169,8 +170,8 @@ impl Table {
         requires { length self.now.terms ≤ length row.old }
         ensures { IsMarked self.now.terms row.new (term_at self.now.terms 0 ∷ []) }
     {
-        clear(row);
         let n = self.spots.len();
+        clear(row, n);
         if n > 0 {
             row[0] = true;
         }
