@@ -105,6 +105,13 @@ impl Table {
         self.spots.len().max(self.ways.len()) as u32
     }
 
+    /// How many places there are. Takes no memory.
+    pub fn places(&self) -> u32
+        ensures { result ≡ length self.now.terms }
+    {
+        self.spots.len() as u32
+    }
+
     /// How many classes of bytes there are. Takes no memory.
     pub fn classes(&self) -> u8
         ensures count { IsClassCount (sets_of (term_at self.now.terms 0)) result }

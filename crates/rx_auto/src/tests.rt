@@ -86,6 +86,7 @@ fn places_lead_to_places(rt: HostRuntime) -> Result<(), Fail> {
     let table = path(rt.alloc())?;
     table.known();
     let mut places = Vec::new(rt.alloc());
+    assert!(rt; table.places() == 4);
     assert!(rt; table.room() == 4);
     table.lead(0, b'/', 100, &mut places)?;
     assert_eq!(rt; places.as_slice(), [101].as_slice());
