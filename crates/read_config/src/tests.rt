@@ -56,7 +56,8 @@ Missing /virtual_hosts/0/domains: {"name":"h"}
 Missing /virtual_hosts/0/domains: {"name":"h","domains":[]}
 BadText /virtual_hosts/0/domains/1: {"name":"h","domains":["a","b*c"]}
 BadText /virtual_hosts/0/domains/0: {"name":"h","domains":[""]}
-NotInProfile /virtual_hosts/0/require_tls: {"name":"h","domains":["*"],"require_tls":"NONE"}
+OutOfRange /virtual_hosts/0/require_tls: {"name":"h","domains":["*"],"require_tls":"SOME"}
+NotInProfile /virtual_hosts/0/virtual_clusters: {"name":"h","domains":["*"],"require_tls":"NONE","virtual_clusters":[]}
 NotInProfile /virtual_hosts/0/matcher: {"name":"h","domains":["*"],"matcher":{}}
 Duplicate /virtual_hosts/1/domains/0: {"name":"h","domains":["A.com"]},{"name":"g","domains":["a.com"]}
 Duplicate /virtual_hosts/0/domains/2: {"name":"h","domains":["*.b","b","*.B"]},{"name":"g","domains":["b"]}
