@@ -14,7 +14,9 @@ fn first_wrong<'r>(
 ) -> Result<Option<&'r str>, OutOfMemory> {
     let config = format!(in alloc;
         "{}{tls}{}{route}{}",
-        r#"{"virtual_hosts":[{"name":"h","domains":["*"],"require_tls":""#, r#"","routes":["#, "]}]}"
+        r#"{"virtual_hosts":[{"name":"h","domains":["*"],"require_tls":""#,
+        r#"","routes":["#,
+        "]}]}"
     )?;
     first_failing(alloc, config.as_str(), field, rows)
 }
@@ -50,8 +52,14 @@ const OTHER_PORT_ROWS: &str = r#"https://h:8443/p?x {"authority":"h:8080","path"
 fn redirects_have_whole_urls(rt: HostRuntime) -> Result<(), Fail> {
     let alloc = rt.alloc();
     let field = "path_redirect";
-    assert_eq!(rt; first_wrong(alloc, "NONE", SECURE, field, SECURE_ROWS)?, None);
-    assert_eq!(rt; first_wrong(alloc, "NONE", OTHER_PORT, field, OTHER_PORT_ROWS)?, None);
+    assert_eq!(rt;
+        first_wrong(alloc, "NONE", SECURE, field, SECURE_ROWS)?,
+        None
+    );
+    assert_eq!(rt;
+        first_wrong(alloc, "NONE", OTHER_PORT, field, OTHER_PORT_ROWS)?,
+        None
+    );
     Ok(())
 }
 
@@ -81,8 +89,17 @@ const INTERNAL: &str = r#"a {"authority":"h:80","path":"/p?x=1","internal":true}
 #[test]
 fn hosts_may_need_tls(rt: HostRuntime) -> Result<(), Fail> {
     let alloc = rt.alloc();
-    assert_eq!(rt; first_wrong(alloc, "ALL", PLAIN, "path_redirect", SENT_TO_HTTPS)?, None);
-    assert_eq!(rt; first_wrong(alloc, "ALL", PLAIN, "cluster_name", SECURE_ALREADY)?, None);
-    assert_eq!(rt; first_wrong(alloc, "EXTERNAL_ONLY", PLAIN, "cluster_name", INTERNAL)?, None);
+    assert_eq!(rt;
+        first_wrong(alloc, "ALL", PLAIN, "path_redirect", SENT_TO_HTTPS)?,
+        None
+    );
+    assert_eq!(rt;
+        first_wrong(alloc, "ALL", PLAIN, "cluster_name", SECURE_ALREADY)?,
+        None
+    );
+    assert_eq!(rt;
+        first_wrong(alloc, "EXTERNAL_ONLY", PLAIN, "cluster_name", INTERNAL)?,
+        None
+    );
     Ok(())
 }

@@ -6,12 +6,7 @@ use std::test::Fail;
 use text_base::OutOfMemory;
 
 /// The line of an offence of this kind at this place of the file.
-fn refusal_line(
-    alloc: Global,
-    file: &str,
-    kind: &str,
-    place: &str,
-) -> Result<String, OutOfMemory> {
+fn refusal_line(alloc: Global, file: &str, kind: &str, place: &str) -> Result<String, OutOfMemory> {
     format!(in alloc;
         "{}{kind}{}{place}{}{file}{}",
         r#"{"kind":""#, r#"","place":""#, r#"","refused":""#, "\"}\n"
@@ -117,7 +112,8 @@ fn each_kind_of_offence_has_its_place(rt: HostRuntime) -> Result<(), Fail> {
 /// The line tells the length of the longest front of the text that begins a pattern.
 #[test]
 fn bad_pattern_is_told_with_its_offset(rt: HostRuntime) -> Result<(), Fail> {
-    let config = r#"{"virtual_hosts":[{"name":"h","domains":["*"],"routes":[{"match":{"safe_regex":{"regex":"(a"}},"route":{"cluster":"a"}}]}]}"#;
+    let config =
+        r#"{"virtual_hosts":[{"name":"h","domains":["*"],"routes":[{"match":{"safe_regex":{"regex":"(a"}},"route":{"cluster":"a"}}]}]}"#;
     let line = concat!(
         r#"{"at":2,"kind":"BadRegex","place":"/virtual_hosts/0/routes/0/match/safe_regex/regex","refused":"config"}"#,
         "\n"
