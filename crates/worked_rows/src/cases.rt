@@ -6,10 +6,10 @@ use std::alloc::Global;
 use std::test::Fail;
 use text_base::{OutOfMemory, Text};
 
-pub const CONFIG: &str =
+pub(crate) const CONFIG: &str =
     "{\"virtual_hosts\":[{\"name\":\"h\",\"domains\":[\"*\"],\"routes\":[{\"match\":{\"prefix\":\"/\"},\"route\":{\"cluster\":\"a\"}}]}]}";
 
-pub const PASSING: &str =
+pub(crate) const PASSING: &str =
     "{\"tests\":[{\"test_name\":\"t\",\"input\":{\"authority\":\"x.com\",\"path\":\"/\"},\"validate\":{\"cluster_name\":\"a\"}}]}";
 
 const FAILING: &str =
@@ -18,14 +18,14 @@ const FAILING: &str =
 const EXPECTS_NOTHING: &str =
     "{\"tests\":[{\"test_name\":\"t\",\"input\":{\"authority\":\"x.com\",\"path\":\"/\"},\"validate\":{\"cluster_name\":\"\"}}]}";
 
-pub const PASS_LINES: &str =
+pub(crate) const PASS_LINES: &str =
     "{\"failures\":[],\"test\":\"t\",\"verdict\":\"pass\"}\n{\"covered\":1,\"failed\":0,\"routes\":1,\"tests\":1}\n";
 
 const FAIL_LINES: &str =
     "{\"failures\":[{\"actual\":\"a\",\"expected\":\"b\",\"field\":\"cluster_name\"}],\"test\":\"t\",\"verdict\":\"fail\"}\n{\"covered\":1,\"failed\":1,\"routes\":1,\"tests\":1}\n";
 
 /// A map of the two files `c` and `t`.
-pub fn two_files(
+pub(crate) fn two_files(
     alloc: Global,
     config: &str,
     tests: &str,
@@ -37,7 +37,7 @@ pub fn two_files(
 }
 
 /// The words of a list.
-pub fn words(alloc: Global, list: &[&str]) -> Result<Vec<String>, OutOfMemory> {
+pub(crate) fn words(alloc: Global, list: &[&str]) -> Result<Vec<String>, OutOfMemory> {
     let mut words = Vec::new(alloc);
     for word in list {
         words.push(String::from_str(alloc, *word)?)?;
@@ -46,7 +46,7 @@ pub fn words(alloc: Global, list: &[&str]) -> Result<Vec<String>, OutOfMemory> {
 }
 
 /// Files that never fail while a name is there.
-pub fn memory_files(alloc: Global, map: Vec<(Text, Vec<u8>)>) -> MemoryFiles {
+pub(crate) fn memory_files(alloc: Global, map: Vec<(Text, Vec<u8>)>) -> MemoryFiles {
     MemoryFiles {
         map,
         calls: 0,
@@ -56,7 +56,7 @@ pub fn memory_files(alloc: Global, map: Vec<(Text, Vec<u8>)>) -> MemoryFiles {
 }
 
 /// A sink that never fails and takes so many bytes at once.
-pub fn memory_sink(alloc: Global, most: usize) -> MemorySink {
+pub(crate) fn memory_sink(alloc: Global, most: usize) -> MemorySink {
     MemorySink {
         bytes: Vec::new(alloc),
         most,
@@ -67,7 +67,7 @@ pub fn memory_sink(alloc: Global, most: usize) -> MemorySink {
 }
 
 /// The status of a run of these words over two files, and what it writes.
-pub fn outcome(
+pub(crate) fn outcome(
     alloc: Global,
     list: &[&str],
     config: &str,

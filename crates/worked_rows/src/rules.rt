@@ -1,4 +1,4 @@
-// Where requests are sent: domains of hosts, and rules on paths, headers, queries, fractions and gRPC.
+// Where requests are sent: domains of hosts, and rules on paths, headers, queries, fractions, gRPC and patterns.
 use crate::cases::outcome;
 use check_core::Status;
 use std::alloc::Global;
@@ -22,7 +22,7 @@ fn passes(
 }
 
 /// The first row `WANT INPUT` whose test fails over the configuration, where WANT is what the field is to be.
-pub fn first_failing<'r>(
+pub(crate) fn first_failing<'r>(
     alloc: Global,
     config: &str,
     field: &str,
