@@ -1,0 +1,8 @@
+//! That the grammar of patterns gives each text one answer.
+#![tactic(auto)]
+
+mod laws;
+#[cfg(test)]
+mod tests;
+
+pub use laws::one_answer_law;
