@@ -1,9 +1,12 @@
 // Values that are read, and offences with their places.
+ghost use Rattle.std.specs.Prelude.{◌<◌};
+
 use crate::{
     AnyText, Int64, Kind, ListOf, Message, ReadFail, Reader, Refusal, Text, Truth, alone, at_index,
     choice_of, count_of, field, field_place, items_of, list_of, members, must, object_of, optional,
     read_list, read_value, refused_at, required, text_of, truth_of, under, whole_of,
 };
+use sqlite_items::Items;
 use std::alloc::Global;
 use std::test::Fail;
 
@@ -23,13 +26,6 @@ fn offence_in(alloc: Global, text: &str, message: Message) -> Result<Option<Refu
     offence_of(members(alloc, &value, &place, message))
 }
 
-/// The offence of the whole number at `/n`, which may be from -10 to 10.
-fn offence_of_number(alloc: Global, text: &str) -> Result<Option<Refusal>, ReadFail> {
-    let value = read_value(alloc, text.as_bytes())?;
-    let place = Text::of(alloc, "/n")?;
-    offence_of(whole_of(alloc, &value, &place, -10, 10))
-}
-
 /// The message of a name.
 fn message_of(name: &str) -> Option<Message> {
     match name {
@@ -46,6 +42,14 @@ fn message_of(name: &str) -> Option<Message> {
     }
 }
 
+/// The offence as a text: its kind and its place, or `none`.
+fn told(alloc: Global, offence: Option<Refusal>) -> Result<String, ReadFail> {
+    match offence {
+        Some(refusal) => { Ok(format!(in alloc; "{:?} {}", refusal.kind, refusal.place.as_str())?) }
+        None => Ok(String::from_str(alloc, "none")?),
+    }
+}
+
 /// Whether the offence of the row `MESSAGE KIND PLACE: TEXT`, or none of `MESSAGE none: TEXT`, is that of the text.
 fn row_holds(alloc: Global, row: &str) -> Result<bool, ReadFail> {
     let Some((front, text)) = row.split_once(": ") else {
@@ -57,21 +61,18 @@ fn row_holds(alloc: Global, row: &str) -> Result<bool, ReadFail> {
     let Some(message) = message_of(name) else {
         return Ok(false);
     };
-    let Some(refusal) = offence_in(alloc, text, message)? else {
-        return Ok(want == "none");
-    };
-    let told = format!(in alloc; "{:?} {}", refusal.kind, refusal.place.as_str())?;
+    let told = told(alloc, offence_in(alloc, text, message)?)?;
     Ok(told.as_str() == want)
 }
 
-/// The first row that doesn't hold.
-fn first_wrong<'r>(alloc: Global, rows: &'r str) -> Result<Option<&'r str>, ReadFail> {
+/// Fails with the first row that doesn't hold.
+fn all_hold(alloc: Global, rows: &str) -> Result<(), Fail> {
     for row in rows.lines() {
         if !row_holds(alloc, row)? {
-            return Ok(Some(row));
+            return Err(Fail::new(row));
         }
     }
-    Ok(None)
+    Ok(())
 }
 
 const MEMBERS: &str = r#"Matcher WrongKind /x: []
@@ -89,143 +90,267 @@ Grpc none: {}"#;
 
 #[test]
 fn members_have_offences(rt: HostRuntime) -> Result<(), Fail> {
-    assert_eq!(rt; first_wrong(rt.alloc(), MEMBERS)?, None);
+    all_hold(rt.alloc(), MEMBERS)?;
     Ok(())
+}
+
+/// The whole number at `/n`, which may be from -10 to 10.
+fn number_of(alloc: Global, text: &str) -> Result<i128, ReadFail> {
+    let value = read_value(alloc, text.as_bytes())?;
+    let place = Text::of(alloc, "/n")?;
+    whole_of(alloc, &value, &place, -10, 10)
+}
+
+/// The number, or its offence, as a text.
+fn told_number(alloc: Global, text: &str) -> Result<String, ReadFail> {
+    match number_of(alloc, text) {
+        Ok(number) => Ok(format!(in alloc; "{number}")?),
+        Err(fail) => told(alloc, offence_of::<u8>(Err(fail))?),
+    }
+}
+
+/// Fails with the first of the rows `NUMBER: TEXT` and `KIND PLACE: TEXT` that doesn't hold.
+fn all_numbers_are(alloc: Global, rows: &str) -> Result<(), Fail> {
+    for row in rows.lines() {
+        let Some((want, text)) = row.split_once(": ") else {
+            return Err(Fail::new(row));
+        };
+        if told_number(alloc, text)?.as_str() != want {
+            return Err(Fail::new(row));
+        }
+    }
+    Ok(())
+}
+
+const NUMBERS: &str = r#"7: 7
+-7: -7
+-10: "-10"
+0: "-0"
+10: "00000000000000000010"
+WrongKind /n: 1.0
+WrongKind /n: 1e1
+WrongKind /n: -0
+WrongKind /n: 18446744073709551616
+OutOfRange /n: 18446744073709551615
+OutOfRange /n: "18446744073709551616"
+WrongKind /n: "+5"
+WrongKind /n: "-"
+WrongKind /n: ""
+WrongKind /n: "000000000000000000001"
+OutOfRange /n: 11
+OutOfRange /n: "-11"
+WrongKind /n: true"#;
+
+/// The number of 64 bits without a sign.
+fn unsigned_of(alloc: Global, text: &str) -> Result<u64, ReadFail> {
+    let value = read_value(alloc, text.as_bytes())?;
+    let place = Text::of(alloc, "/n")?;
+    count_of(alloc, &value, &place, 0, u64::MAX)
+}
+
+/// The number of 64 bits with a sign.
+fn signed_of(alloc: Global, text: &str) -> Result<i64, ReadFail> {
+    let value = read_value(alloc, text.as_bytes())?;
+    let place = Text::of(alloc, "/n")?;
+    Int64.read(alloc, &value, &place)
 }
 
 #[test]
 fn numbers_are_read_from_digits_too(rt: HostRuntime) -> Result<(), Fail> {
     let alloc = rt.alloc();
-    let place = Text::of(alloc, "/n")?;
-    for (text, number) in [
-        ("7", 7),
-        ("-7", -7),
-        ("\"-10\"", -10),
-        ("\"-0\"", 0),
-        ("\"00000000000000000010\"", 10),
-    ] {
-        let value = read_value(alloc, text.as_bytes())?;
-        let read = whole_of(alloc, &value, &place, -10, 10)?;
-        assert_eq!(rt; read, number, "{text}");
-    }
-    let rows = [
-        ("1.0", Kind::WrongKind),
-        ("1e1", Kind::WrongKind),
-        ("-0", Kind::WrongKind),
-        ("18446744073709551616", Kind::WrongKind),
-        ("18446744073709551615", Kind::OutOfRange),
-        ("\"18446744073709551616\"", Kind::OutOfRange),
-        ("\"+5\"", Kind::WrongKind),
-        ("\"-\"", Kind::WrongKind),
-        ("\"\"", Kind::WrongKind),
-        ("\"000000000000000000001\"", Kind::WrongKind),
-        ("11", Kind::OutOfRange),
-        ("\"-11\"", Kind::OutOfRange),
-        ("true", Kind::WrongKind),
-    ];
-    for (text, kind) in rows {
-        let refusal = offence_of_number(alloc, text)?.ok_or("read")?;
-        assert_eq!(rt; refusal.place.as_str(), "/n", "{text}");
-        assert_eq!(rt; refusal.kind, kind, "{text}");
-    }
-    let most = read_value(alloc, b"\"18446744073709551615\"".as_slice())?;
-    assert_eq!(rt; count_of(alloc, &most, &place, 0, u64::MAX)?, u64::MAX);
-    let least = read_value(alloc, b"-9223372036854775808".as_slice())?;
-    assert_eq!(rt; Int64.read(alloc, &least, &place)?, i64::MIN);
+    all_numbers_are(alloc, NUMBERS)?;
+    assert_eq!(rt; unsigned_of(alloc, "\"18446744073709551615\"")?, u64::MAX);
+    assert_eq!(rt; signed_of(alloc, "-9223372036854775808")?, i64::MIN);
+    Ok(())
+}
+
+/// The message whose fields the tests read.
+const M: Message = Message::StringMatcher;
+
+/// Whether the field of this number is there.
+fn is_there(alloc: Global, text: &str, number: usize) -> Result<bool, ReadFail>
+    requires { number < 6 }
+{
+    let value = read_value(alloc, text.as_bytes())?;
+    let place = Text::of(alloc, "/x")?;
+    object_of(alloc, &value, &place)?;
+    let names = members(alloc, &value, &place, M)?;
+    Ok(field(&value, &names, M, number).is_some())
+}
+
+/// The text of the field of this number, which has to be there.
+fn required_text(alloc: Global, text: &str, number: usize) -> Result<Text, ReadFail>
+    requires { number < 6 }
+{
+    let value = read_value(alloc, text.as_bytes())?;
+    let place = Text::of(alloc, "/x")?;
+    let names = members(alloc, &value, &place, M)?;
+    required(alloc, &value, &place, &names, M, number, &AnyText)
+}
+
+/// The truth of the field of this number, if it is there.
+fn optional_truth(alloc: Global, text: &str, number: usize) -> Result<Option<bool>, ReadFail>
+    requires { number < 6 }
+{
+    let value = read_value(alloc, text.as_bytes())?;
+    let place = Text::of(alloc, "/x")?;
+    let names = members(alloc, &value, &place, M)?;
+    optional(alloc, &value, &place, &names, M, number, &Truth)
+}
+
+/// The offence of a group of the first five fields, as a text.
+fn told_alone(alloc: Global, text: &str) -> Result<String, ReadFail> {
+    let value = read_value(alloc, text.as_bytes())?;
+    let place = Text::of(alloc, "/x")?;
+    let names = members(alloc, &value, &place, M)?;
+    told(
+        alloc,
+        offence_of(alone(alloc, &value, &place, &names, M, 0, 5))?,
+    )
+}
+
+/// The place of a field below `/x`.
+fn place_of(alloc: Global, number: usize) -> Result<Text, ReadFail>
+    requires { number < 6 }
+{
+    let place = Text::of(alloc, "/x")?;
+    Ok(field_place(alloc, &place, M, number)?)
+}
+
+/// What is made of something that has to be there at `/x`.
+fn must_be(alloc: Global, found: Option<u8>) -> Result<u8, ReadFail> {
+    let place = Text::of(alloc, "/x")?;
+    must(alloc, &place, found)
+}
+
+const FIELDS: &str = r#"{"exact":"a","ignoreCase":true,"suffix":null}"#;
+
+#[test]
+fn fields_are_read(rt: HostRuntime) -> Result<(), Fail> {
+    let alloc = rt.alloc();
+    assert!(rt; is_there(alloc, FIELDS, 5)?);
+    assert!(rt; !is_there(alloc, FIELDS, 2)?);
+    assert_eq!(rt; place_of(alloc, 5)?.as_str(), "/x/ignore_case");
+    assert_eq!(rt; required_text(alloc, FIELDS, 0)?.as_str(), "a");
+    assert!(rt; optional_truth(alloc, FIELDS, 5)?.unwrap_or(false));
+    assert_eq!(rt; told_alone(alloc, FIELDS)?.as_str(), "none");
+    assert_eq!(rt; must_be(alloc, Some(1))?, 1);
     Ok(())
 }
 
 #[test]
-fn fields_are_read(rt: HostRuntime) -> Result<(), Fail> {
-    const M: Message = Message::StringMatcher;
+fn fields_have_offences(rt: HostRuntime) -> Result<(), Fail> {
     let alloc = rt.alloc();
-    let place = Text::of(alloc, "/x")?;
-    let value = read_value(
-        alloc,
-        r#"{"exact":"a","ignoreCase":true,"suffix":null}"#.as_bytes(),
-    )?;
-    object_of(alloc, &value, &place)?;
-    let names = members(alloc, &value, &place, M)?;
-    assert!(rt; field(&value, &names, M, 5).is_some());
-    assert!(rt; field(&value, &names, M, 2).is_none());
-    assert_eq!(rt;
-        field_place(alloc, &place, M, 5)?.as_str(),
-        "/x/ignore_case"
-    );
-    let exact = required(alloc, &value, &place, &names, M, 0, &AnyText)?;
-    assert_eq!(rt; exact.as_str(), "a");
-    assert_eq!(rt;
-        optional(alloc, &value, &place, &names, M, 5, &Truth)?,
-        Some(true)
-    );
-    alone(alloc, &value, &place, &names, M, 0, 5)?;
-    assert_eq!(rt; must(alloc, &place, Some(1u8))?, 1);
-    let missing = offence_of(required(alloc, &value, &place, &names, M, 1, &AnyText))?.ok_or(
-        "read",
-    )?;
-    assert_eq!(rt; missing.place.as_str(), "/x/prefix");
-    assert_eq!(rt; missing.kind, Kind::Missing);
-    let wrong = offence_of(optional(alloc, &value, &place, &names, M, 5, &AnyText))?.ok_or("read")?;
-    assert_eq!(rt; wrong.place.as_str(), "/x/ignore_case");
-    assert_eq!(rt; wrong.kind, Kind::WrongKind);
+    let missing = offence_of(required_text(alloc, FIELDS, 1))?;
+    assert_eq!(rt; told(alloc, missing)?.as_str(), "Missing /x/prefix");
+    let wrong = offence_of(required_text(alloc, FIELDS, 5))?;
+    assert_eq!(rt; told(alloc, wrong)?.as_str(), "WrongKind /x/ignore_case");
+    let none = offence_of(must_be(alloc, None))?;
+    assert_eq!(rt; told(alloc, none)?.as_str(), "Missing /x");
     Ok(())
 }
 
 #[test]
 fn second_of_a_group_is_a_conflict(rt: HostRuntime) -> Result<(), Fail> {
-    const M: Message = Message::StringMatcher;
-    let alloc = rt.alloc();
-    let place = Text::of(alloc, "/x")?;
-    let value = read_value(alloc, r#"{"suffix":1,"exact":2,"contains":3}"#.as_bytes())?;
-    let names = members(alloc, &value, &place, M)?;
-    let refusal = offence_of(alone(alloc, &value, &place, &names, M, 0, 5))?.ok_or("read")?;
-    assert_eq!(rt; refusal.place.as_str(), "/x/suffix");
-    assert_eq!(rt; refusal.kind, Kind::Conflict);
-    let none: Option<u8> = None;
-    let refusal = offence_of(must(alloc, &place, none))?.ok_or("read")?;
-    assert_eq!(rt; refusal.place.as_str(), "/x");
-    assert_eq!(rt; refusal.kind, Kind::Missing);
+    let told = told_alone(rt.alloc(), r#"{"suffix":1,"exact":2,"contains":3}"#)?;
+    assert_eq!(rt; told.as_str(), "Conflict /x/suffix");
     Ok(())
+}
+
+/// The texts of a list at `/l`.
+fn texts_of(alloc: Global, text: &str) -> Result<Items<Text>, ReadFail> {
+    let value = read_value(alloc, text.as_bytes())?;
+    let place = Text::of(alloc, "/l")?;
+    read_list(alloc, &value, &place, None, &AnyText)
+}
+
+/// The texts of a list at `/l`, of one at most.
+fn one_text_of(alloc: Global, text: &str) -> Result<Items<Text>, ReadFail> {
+    let value = read_value(alloc, text.as_bytes())?;
+    let place = Text::of(alloc, "/l")?;
+    let texts = ListOf {
+        most: Some(1),
+        element: AnyText,
+    };
+    texts.read(alloc, &value, &place)
+}
+
+/// How many elements a list has, counted in two ways.
+fn counts_of(alloc: Global, text: &str) -> Result<(usize, usize), ReadFail> {
+    let value = read_value(alloc, text.as_bytes())?;
+    let place = Text::of(alloc, "/l")?;
+    let items = items_of(alloc, &value, &place, Some(2))?.len();
+    Ok((items, list_of(alloc, &value, &place, None)?))
 }
 
 #[test]
 fn lists_are_read_in_order(rt: HostRuntime) -> Result<(), Fail> {
     let alloc = rt.alloc();
-    let place = Text::of(alloc, "/l")?;
-    let value = read_value(alloc, r#"["a","b"]"#.as_bytes())?;
-    assert_eq!(rt; items_of(alloc, &value, &place, Some(2))?.len(), 2);
-    assert_eq!(rt; list_of(alloc, &value, &place, None)?, 2);
-    let list = read_list(alloc, &value, &place, None, &AnyText)?;
+    assert_eq!(rt; counts_of(alloc, r#"["a","b"]"#)?, (2, 2));
+    let list = texts_of(alloc, r#"["a","b"]"#)?;
     assert_eq!(rt; list.get(1).ok_or("short")?.as_str(), "b");
-    let texts = ListOf {
-        most: Some(1),
-        element: AnyText,
-    };
-    let refusal = offence_of(texts.read(alloc, &value, &place))?.ok_or("read")?;
-    assert_eq!(rt; refusal.place.as_str(), "/l");
-    assert_eq!(rt; refusal.kind, Kind::TooMany);
-    let mixed = read_value(alloc, r#"["a",null]"#.as_bytes())?;
-    let refusal = offence_of(read_list(alloc, &mixed, &place, None, &AnyText))?.ok_or("read")?;
-    assert_eq!(rt; refusal.place.as_str(), "/l/1");
-    assert_eq!(rt; refusal.kind, Kind::WrongKind);
     Ok(())
 }
 
 #[test]
-fn leaves_and_places(rt: HostRuntime) -> Result<(), Fail> {
+fn lists_have_offences(rt: HostRuntime) -> Result<(), Fail> {
     let alloc = rt.alloc();
+    let many = offence_of(one_text_of(alloc, r#"["a","b"]"#))?;
+    assert_eq!(rt; told(alloc, many)?.as_str(), "TooMany /l");
+    let mixed = offence_of(texts_of(alloc, r#"["a",null]"#))?;
+    assert_eq!(rt; told(alloc, mixed)?.as_str(), "WrongKind /l/1");
+    Ok(())
+}
+
+/// The text at the empty place.
+fn plain_text(alloc: Global, text: &str) -> Result<Text, ReadFail> {
+    let value = read_value(alloc, text.as_bytes())?;
     let place = Text::of(alloc, "")?;
-    let text = read_value(alloc, br#""ALL""#.as_slice())?;
-    assert_eq!(rt; text_of(alloc, &text, &place)?.as_str(), "ALL");
-    assert_eq!(rt; choice_of(alloc, &text, &place, &["NONE", "ALL"])?, 1);
-    let truth = read_value(alloc, b"false".as_slice())?;
-    assert_eq!(rt; truth_of(alloc, &truth, &place)?, false);
-    let at = under(alloc, &at_index(alloc, &place, 10)?, "é~/")?;
-    assert_eq!(rt; at.as_str(), "/10/é~0~1");
-    let refusal = offence_of(choice_of(alloc, &text, &at, &["NONE"]))?.ok_or("read")?;
-    assert_eq!(rt; refusal.kind, Kind::OutOfRange);
-    let fail: Result<u8, ReadFail> = Err(refused_at(at, Kind::BadRegex { at: 3 }));
-    let refusal = offence_of(fail)?.ok_or("read")?;
-    assert_eq!(rt; refusal.kind, Kind::BadRegex { at: 3 });
+    text_of(alloc, &value, &place)
+}
+
+/// The number of the name at the empty place.
+fn choice_among(alloc: Global, text: &str, names: &[&str]) -> Result<usize, ReadFail> {
+    let value = read_value(alloc, text.as_bytes())?;
+    let place = Text::of(alloc, "")?;
+    choice_of(alloc, &value, &place, names)
+}
+
+/// The truth at the empty place.
+fn plain_truth(alloc: Global, text: &str) -> Result<bool, ReadFail> {
+    let value = read_value(alloc, text.as_bytes())?;
+    let place = Text::of(alloc, "")?;
+    truth_of(alloc, &value, &place)
+}
+
+#[test]
+fn leaves_are_read(rt: HostRuntime) -> Result<(), Fail> {
+    let alloc = rt.alloc();
+    assert_eq!(rt; plain_text(alloc, "\"ALL\"")?.as_str(), "ALL");
+    assert_eq!(rt; choice_among(alloc, "\"ALL\"", &["NONE", "ALL"])?, 1);
+    assert_eq!(rt; plain_truth(alloc, "false")?, false);
+    let outside = offence_of(choice_among(alloc, "\"ALL\"", &["NONE"]))?;
+    assert_eq!(rt; told(alloc, outside)?.as_str(), "OutOfRange ");
+    Ok(())
+}
+
+/// The place of a member of this name in the element 10 of the whole.
+fn place_below(alloc: Global, name: &str) -> Result<Text, ReadFail> {
+    let whole = Text::of(alloc, "")?;
+    Ok(under(alloc, &at_index(alloc, &whole, 10)?, name)?)
+}
+
+/// The offence of a pattern's fourth byte at this place, as a text.
+fn told_regex(alloc: Global, place: Text) -> Result<String, ReadFail> {
+    let fail: Result<u8, ReadFail> = Err(refused_at(place, Kind::BadRegex { at: 3 }));
+    told(alloc, offence_of(fail)?)
+}
+
+#[test]
+fn places_are_pointers(rt: HostRuntime) -> Result<(), Fail> {
+    let alloc = rt.alloc();
+    assert_eq!(rt; place_below(alloc, "é~/")?.as_str(), "/10/é~0~1");
+    let place = Text::of(alloc, "/r")?;
+    assert_eq!(rt; told_regex(alloc, place)?.as_str(), "BadRegex { at: 3 } /r");
     Ok(())
 }

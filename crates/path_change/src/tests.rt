@@ -125,16 +125,16 @@ fn pick_holds(shares: &[Share], row: &str) -> bool
     shares[pick_share(shares, random)].name.as_str() == name
 }
 
-/// The first row that doesn't hold.
-fn wrong_pick<'r>(shares: &[Share], rows: &'r str) -> Option<&'r str>
+/// Fails with the first row that doesn't hold.
+fn all_are_picked(shares: &[Share], rows: &str) -> Result<(), Fail>
     requires { weight_of shares.now ≡ 100 }
 {
     for row in rows.lines() {
         if !pick_holds(shares, row) {
-            return Some(row);
+            return Err(Fail::new(row));
         }
     }
-    None
+    Ok(())
 }
 
 /// The random value is taken modulo 100.
@@ -146,7 +146,7 @@ a 18446744073709551615";
 #[test]
 fn random_values_fall_to_shares_by_weight(rt: HostRuntime) -> Result<(), Fail> {
     let shares = three_shares(rt.alloc())?;
-    assert_eq!(rt; wrong_pick(shares.as_slice(), PICKS), None);
+    all_are_picked(shares.as_slice(), PICKS)?;
     Ok(())
 }
 
@@ -268,15 +268,15 @@ fn names_cluster(alloc: Global, request: &Request, row: &str) -> Result<bool, Ou
     is_sent(alloc, &target, request, cluster)
 }
 
-/// The first row that doesn't hold of a request in which `x-a` has two values.
-fn wrong_name<'r>(alloc: Global, rows: &'r str) -> Result<Option<&'r str>, OutOfMemory> {
+/// Fails with the first row that doesn't hold of a request in which `x-a` has two values.
+fn all_are_named(alloc: Global, rows: &str) -> Result<(), Fail> {
     let request = with_two_values(alloc)?;
     for row in rows.lines() {
         if !names_cluster(alloc, &request, row)? {
-            return Ok(Some(row));
+            return Err(Fail::new(row));
         }
     }
-    Ok(None)
+    Ok(())
 }
 
 /// The second row has no such header, and so the empty cluster.
@@ -287,7 +287,7 @@ http x-forwarded-proto";
 
 #[test]
 fn cluster_is_the_first_value_of_a_header(rt: HostRuntime) -> Result<(), Fail> {
-    assert_eq!(rt; wrong_name(rt.alloc(), NAMED)?, None);
+    all_are_named(rt.alloc(), NAMED)?;
     Ok(())
 }
 

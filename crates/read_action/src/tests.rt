@@ -148,24 +148,20 @@ where
     }
 }
 
-/// The first row that doesn't hold, or the table itself where it has none.
-fn first_wrong<'r, R: Reader>(
-    alloc: Global,
-    rows: &'r str,
-    reader: &R,
-) -> Result<Option<&'r str>, OutOfMemory>
+/// Fails with the first row that doesn't hold, or where there is no row.
+fn all_hold<R: Reader>(alloc: Global, rows: &str, reader: &R) -> Result<(), Fail>
 where
     R::Out: Told,
 {
     if rows.is_empty() {
-        return Ok(Some(rows));
+        return Err(Fail::new("no rows"));
     }
     for row in rows.lines() {
         if !row_holds(alloc, row, reader)? {
-            return Ok(Some(row));
+            return Err(Fail::new(row));
         }
     }
-    Ok(None)
+    Ok(())
 }
 
 const ROUTES: &str =
@@ -221,18 +217,18 @@ const RESPONSES: &str = r#"{"status":"599"} => status=599
 #[test]
 fn routes_are_read_or_have_an_offence(rt: HostRuntime) -> Result<(), Fail> {
     let alloc = rt.alloc();
-    assert_eq!(rt; first_wrong(alloc, ROUTES, &PlainRoute)?, None);
-    assert_eq!(rt; first_wrong(alloc, TYPED, &TypedRoute)?, None);
-    assert_eq!(rt; first_wrong(alloc, ACTIONS, &RouteAction)?, None);
+    all_hold(alloc, ROUTES, &PlainRoute)?;
+    all_hold(alloc, TYPED, &TypedRoute)?;
+    all_hold(alloc, ACTIONS, &RouteAction)?;
     Ok(())
 }
 
 #[test]
 fn actions_are_read_or_have_an_offence(rt: HostRuntime) -> Result<(), Fail> {
     let alloc = rt.alloc();
-    assert_eq!(rt; first_wrong(alloc, REDIRECTS, &RedirectAction)?, None);
-    assert_eq!(rt; first_wrong(alloc, RESPONSES, &DirectResponseAction)?, None);
-    assert_eq!(rt; first_wrong(alloc, ADDITIONS, &HeaderOption)?, None);
+    all_hold(alloc, REDIRECTS, &RedirectAction)?;
+    all_hold(alloc, RESPONSES, &DirectResponseAction)?;
+    all_hold(alloc, ADDITIONS, &HeaderOption)?;
     Ok(())
 }
 
@@ -240,8 +236,8 @@ fn actions_are_read_or_have_an_offence(rt: HostRuntime) -> Result<(), Fail> {
 fn weights_add_up(rt: HostRuntime) -> Result<(), Fail> {
     let alloc = rt.alloc();
     let share = r#"{"name":"a","weight":0} => name=a weight=0"#;
-    assert_eq!(rt; first_wrong(alloc, share, &ClusterWeight)?, None);
-    assert_eq!(rt; first_wrong(alloc, SHARES, &WeightedCluster)?, None);
+    all_hold(alloc, share, &ClusterWeight)?;
+    all_hold(alloc, SHARES, &WeightedCluster)?;
     Ok(())
 }
 

@@ -16,24 +16,19 @@ fn told(alloc: Global, text: &str) -> Result<String, AllocError> {
     }
 }
 
-/// The first row `KIND PLACE: TEXT` that isn't told so, where TEXT stands between the two texts.
-fn first_wrong<'r>(
-    alloc: Global,
-    rows: &'r str,
-    front: &str,
-    behind: &str,
-) -> Result<Option<&'r str>, AllocError> {
+/// Fails with the first row `KIND PLACE: TEXT` that isn't told so, where TEXT stands between the two texts.
+fn all_are_told(alloc: Global, rows: &str, front: &str, behind: &str) -> Result<(), Fail> {
     for row in rows.lines() {
         let Some((want, text)) = row.split_once(": ") else {
-            return Ok(Some(row));
+            return Err(Fail::new(row));
         };
         let text = format!(in alloc; "{front}{text}{behind}")?;
         let told = told(alloc, text.as_str())?;
         if told.as_str() != want {
-            return Ok(Some(row));
+            return Err(Fail::new(row));
         }
     }
-    Ok(None)
+    Ok(())
 }
 
 const CONFIGS: &str = r#"Syntax : {"virtual_hosts":[{"name":"h
@@ -73,12 +68,9 @@ BadText /virtual_hosts/0/routes/0/route/cluster: {"match":{"prefix":"/"},"route"
 fn offences_have_places(rt: HostRuntime) -> Result<(), Fail> {
     let alloc = rt.alloc();
     let host = r#"{"virtual_hosts":[{"name":"h","domains":["*"],"routes":["#;
-    assert_eq!(rt; first_wrong(alloc, CONFIGS, "", "")?, None);
-    assert_eq!(rt;
-        first_wrong(alloc, HOSTS, r#"{"virtual_hosts":["#, "]}")?,
-        None
-    );
-    assert_eq!(rt; first_wrong(alloc, ROUTES, host, "]}]}")?, None);
+    all_are_told(alloc, CONFIGS, "", "")?;
+    all_are_told(alloc, HOSTS, r#"{"virtual_hosts":["#, "]}")?;
+    all_are_told(alloc, ROUTES, host, "]}]}")?;
     Ok(())
 }
 

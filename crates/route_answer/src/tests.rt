@@ -1,8 +1,8 @@
 // Replies over a table of one host and one route.
-ghost use Rattle.std.specs.Prelude.{◌≡◌, ◌∷◌, [], true, All, IfOk, codes};
+ghost use Rattle.std.specs.Prelude.{◌≡◌, ◌∷◌, [], All, IfOk, codes};
 ghost use Rattle.std.specs.List.{list_all};
 ghost use Rattle.text_base.specs.Alphabets.{is_printed};
-ghost use Rattle.cfg_types.specs.Lawful.{AreLawfulEdits, IsLawfulPair, IsLawfulAct, IsLawfulForward, IsLawfulRoute, IsLawfulHost, IsLawfulCluster, IsLawfulShare, IsLawfulTarget, IsLawfulHostChange, IsLawful};
+ghost use Rattle.cfg_types.specs.Lawful.{AreLawfulEdits, IsLawfulPair, IsLawfulAct, IsLawfulRoute, IsLawfulHost, IsLawfulHeader, IsLawfulCluster, IsLawfulHostChange, IsLawful};
 ghost use Rattle.cfg_types.specs.declared.configs.Domain.TheVariants as domain;
 ghost use Rattle.cfg_types.specs.declared.configs.Body.TheVariants as body;
 ghost use Rattle.cfg_types.specs.Conditions.{AreFewHeads};
@@ -19,13 +19,40 @@ use std::alloc::Global;
 use std::test::Fail;
 use text_base::{Heads, OutOfMemory, Text};
 
-/// The words of the edits of the route, the host and the configuration. `_` is no edit, `-` removes `x`, and another word
-/// is the value that replaces those of `x`.
+/// What the route does.
 #[derive(Clone, Copy)]
-struct Words<'a> {
+enum What {
+    /// Forwards with the authority as it is.
+    Forward,
+    /// Forwards with the host from the header `:path`.
+    HostFromPath,
+    /// Redirects to https.
+    Redirect,
+}
+
+/// The table of a test: what its route does, the words of the edits of the share, the route, the host and the
+/// configuration, and whether the most specific of them wins. `_` is no edit, `-` removes `x`, and another word is the
+/// value that replaces those of `x`.
+#[derive(Clone, Copy)]
+struct Plan<'a> {
+    what: What,
+    share: &'a str,
     route: &'a str,
     host: &'a str,
     config: &'a str,
+    specific: bool,
+}
+
+/// A table that does this and edits nothing.
+fn plain(what: What) -> Plan<'static> {
+    Plan {
+        what,
+        share: "_",
+        route: "_",
+        host: "_",
+        config: "_",
+        specific: false,
+    }
 }
 
 fn are_printed(text: &str) -> bool
@@ -67,9 +94,17 @@ fn pair(alloc: Global, word: &str) -> Result<EditPair, Fail>
     })
 }
 
+fn host_change(alloc: Global, what: What) -> Result<HostChange, OutOfMemory>
+    ensures { IfOk result IsLawfulHostChange }
+{
+    match what {
+        What::HostFromPath => Ok(HostChange::FromHeader(Text::of(alloc, ":path")?)),
+        _ => Ok(HostChange::Keep),
+    }
+}
+
 /// Forwards to one share, which has this word, with the prefix `/` made `/v2/`.
-fn forward(alloc: Global, word: &str, host: HostChange) -> Result<Act, Fail>
-    requires { IsLawfulHostChange host }
+fn forward(alloc: Global, word: &str, what: What) -> Result<Act, Fail>
     ensures { IfOk result IsLawfulAct }
 {
     let mut shares = Items::new(alloc);
@@ -81,7 +116,7 @@ fn forward(alloc: Global, word: &str, host: HostChange) -> Result<Act, Fail>
     Ok(Act::Forward(Forward {
         to: Target::Weighted(shares),
         prefix_rewrite: Text::of(alloc, "/v2/")?,
-        host,
+        host: host_change(alloc, what)?,
     }))
 }
 
@@ -98,9 +133,17 @@ fn redirect(alloc: Global) -> Result<Act, Fail>
     }))
 }
 
+fn act(alloc: Global, plan: Plan<'_>) -> Result<Act, Fail>
+    ensures { IfOk result IsLawfulAct }
+{
+    match plan.what {
+        What::Redirect => redirect(alloc),
+        what => forward(alloc, plan.share, what),
+    }
+}
+
 /// The route of the prefix `/`.
-fn route(alloc: Global, act: Act, word: &str) -> Result<Route, Fail>
-    requires { IsLawfulAct act }
+fn route(alloc: Global, plan: Plan<'_>) -> Result<Route, Fail>
     ensures lawful { IfOk result IsLawfulRoute }
     ensures place { IfOk result (λ r. r.place ≡ codes "/virtual_hosts/0/routes/0") }
 {
@@ -115,8 +158,23 @@ fn route(alloc: Global, act: Act, word: &str) -> Result<Route, Fail>
             grpc: false,
             fraction: None,
         },
-        act,
-        edits: pair(alloc, word)?,
+        act: act(alloc, plan)?,
+        edits: pair(alloc, plan.route)?,
+    })
+}
+
+/// The rule that the method is GET.
+fn is_get(alloc: Global) -> Result<HeaderRule, OutOfMemory>
+    ensures { IfOk result IsLawfulHeader }
+{
+    Ok(HeaderRule {
+        name: Text::of(alloc, ":method")?,
+        form: HeaderForm::Value(TextRule {
+            form: TextForm::Exact(Text::of(alloc, "GET")?),
+            fold: false,
+        }),
+        invert: false,
+        missing_empty: false,
     })
 }
 
@@ -125,15 +183,7 @@ fn clusters(alloc: Global) -> Result<Items<VirtualCluster>, Fail>
     ensures { IfOk result (All IsLawfulCluster) }
 {
     let mut headers = Items::new(alloc);
-    headers.push(HeaderRule {
-        name: Text::of(alloc, ":method")?,
-        form: HeaderForm::Value(TextRule {
-            form: TextForm::Exact(Text::of(alloc, "GET")?),
-            fold: false,
-        }),
-        invert: false,
-        missing_empty: false,
-    })?;
+    headers.push(is_get(alloc)?)?;
     let mut clusters = Items::new(alloc);
     clusters.push(VirtualCluster {
         name: Text::of(alloc, "get")?,
@@ -142,7 +192,7 @@ fn clusters(alloc: Global) -> Result<Items<VirtualCluster>, Fail>
     Ok(clusters)
 }
 
-/// The host of all domains, with this route.
+/// The host of all domains, with this route and this word.
 fn host(alloc: Global, route: Route, word: &str) -> Result<Host, Fail>
     requires { IsLawfulRoute route }
     ensures lawful { IfOk result IsLawfulHost }
@@ -163,19 +213,18 @@ fn host(alloc: Global, route: Route, word: &str) -> Result<Host, Fail>
     })
 }
 
-/// A table of one host and one route, whose edits have these words.
-fn table(alloc: Global, act: Act, words: &Words, specific_wins: bool) -> Result<Config, Fail>
-    requires { IsLawfulAct act }
+/// The table of one host and one route.
+fn table(alloc: Global, plan: Plan<'_>) -> Result<Config, Fail>
     ensures { IfOk result IsLawful }
 {
-    let route = route(alloc, act, words.route)?;
+    let route = route(alloc, plan)?;
     let mut hosts = Items::new(alloc);
-    hosts.push(host(alloc, route, words.host)?)?;
+    hosts.push(host(alloc, route, plan.host)?)?;
     Ok(Config {
         name: Text::of(alloc, "")?,
         hosts,
-        edits: pair(alloc, words.config)?,
-        specific_wins,
+        edits: pair(alloc, plan.config)?,
+        specific_wins: plan.specific,
         ignore_port: false,
         ignore_params: false,
     })
@@ -204,10 +253,9 @@ fn asked(alloc: Global, method: &str) -> Result<Request, Fail>
     Ok(Request::new(alloc, parts).ok().ok_or("request")?)
 }
 
-/// A response without headers is answered to this request, with this choice.
-fn reply(alloc: Global, config: &Config, choice: Choice, method: &str) -> Result<Reply, Fail>
-    requires { IsLawful config.now }
-{
+/// What a table answers to a request by this method with this choice, where the response has no headers.
+fn reply(alloc: Global, plan: Plan<'_>, choice: Choice, method: &str) -> Result<Reply, Fail> {
+    let config = table(alloc, plan)?;
     if let Choice::Chosen { route } = choice {
         if route >= config.route_count() {
             return Err(Fail::from("route"));
@@ -217,7 +265,12 @@ fn reply(alloc: Global, config: &Config, choice: Choice, method: &str) -> Result
     let response = Heads {
         list: Items::new(alloc),
     };
-    Ok(answer(alloc, config, choice, &request, &response)?)
+    Ok(answer(alloc, &config, choice, &request, &response)?)
+}
+
+/// What a table answers to a GET that its route is chosen for.
+fn routed(alloc: Global, plan: Plan<'_>) -> Result<Reply, Fail> {
+    reply(alloc, plan, Choice::Chosen { route: 0 }, "GET")
 }
 
 /// Whether `x` has this one value, or none where the word is `_`.
@@ -233,131 +286,139 @@ fn has_x(heads: &Heads, word: &str) -> bool {
     }
 }
 
-/// A line has the words of the share, the route, the host and the configuration, whether the most specific wins, and then
-/// the value of `x`, in the request and in the response.
-fn row_holds(alloc: Global, line: &str) -> Result<bool, Fail> {
-    let mut words = line.split(' ');
-    let share = words.next().ok_or("share")?;
-    let levels = Words {
-        route: words.next().ok_or("route")?,
-        host: words.next().ok_or("host")?,
-        config: words.next().ok_or("config")?,
-    };
-    let specific = words.next().ok_or("order")? == "specific";
-    let after = words.next().ok_or("after")?;
-    let act = forward(alloc, share, HostChange::Keep)?;
-    let config = table(alloc, act, &levels, specific)?;
-    match reply(alloc, &config, Choice::Chosen { route: 0 }, "GET")? {
+/// Whether the reply forwards with this `x` in the request and in the response.
+fn forwards_with(reply: &Reply, word: &str) -> bool {
+    match reply {
         Reply::Forward {
             request_headers,
             response_headers,
             ..
-        } => Ok(has_x(&request_headers, after) && has_x(&response_headers, after)),
-        _ => Ok(false),
+        } => has_x(request_headers, word) && has_x(response_headers, word),
+        _ => false,
     }
 }
 
 #[test]
 fn all_levels_overwrite_a_header(rt: HostRuntime) -> Result<(), Fail> {
-    for line in "1 2 3 4 general 4\n1 2 3 4 specific 1".split('\n') {
-        assert!(rt; row_holds(rt.alloc(), line)?, "{line}");
-    }
+    let general = Plan {
+        what: What::Forward,
+        share: "1",
+        route: "2",
+        host: "3",
+        config: "4",
+        specific: false,
+    };
+    let specific = Plan {
+        specific: true,
+        ..general
+    };
+    assert!(rt; forwards_with(&routed(rt.alloc(), general)?, "4"));
+    assert!(rt; forwards_with(&routed(rt.alloc(), specific)?, "1"));
     Ok(())
 }
 
 #[test]
 fn a_host_removes_what_its_route_adds(rt: HostRuntime) -> Result<(), Fail> {
-    for line in "_ 2 - _ general _\n_ 2 - _ specific 2".split('\n') {
-        assert!(rt; row_holds(rt.alloc(), line)?, "{line}");
-    }
+    let general = Plan {
+        route: "2",
+        host: "-",
+        ..plain(What::Forward)
+    };
+    let specific = Plan {
+        specific: true,
+        ..general
+    };
+    assert!(rt; forwards_with(&routed(rt.alloc(), general)?, "_"));
+    assert!(rt; forwards_with(&routed(rt.alloc(), specific)?, "2"));
     Ok(())
 }
 
-fn no_words() -> Words<'static> {
-    Words {
-        route: "_",
-        host: "_",
-        config: "_",
+/// Whether the reply forwards to this cluster and target, for this host.
+fn forwards_to(reply: &Reply, to: &str, path: &str, host: &str) -> bool {
+    match reply {
+        Reply::Forward {
+            cluster,
+            target,
+            authority,
+            ..
+        } => {
+            cluster.as_str() == to
+                && target.as_slice() == path.as_bytes()
+                && authority.as_slice() == host.as_bytes()
+        }
+        _ => false,
     }
 }
 
 #[test]
 fn the_host_from_the_path_is_the_new_target(rt: HostRuntime) -> Result<(), Fail> {
-    let alloc = rt.alloc();
-    let change = HostChange::FromHeader(Text::of(alloc, ":path")?);
-    let config = table(alloc, forward(alloc, "_", change)?, &no_words(), false)?;
-    let reply = reply(alloc, &config, Choice::Chosen { route: 0 }, "GET")?;
-    let Reply::Forward {
-        cluster,
-        target,
-        authority,
-        ..
-    } = reply
-    else {
-        return Err(Fail::from("reply"));
-    };
-    assert_eq!(rt; cluster.as_str(), "c");
-    assert_eq!(rt; target.as_slice(), b"/v2/p?q".as_slice());
-    assert_eq!(rt; authority.as_slice(), b"/v2/p?q".as_slice());
+    let reply = routed(rt.alloc(), plain(What::HostFromPath))?;
+    assert!(rt; forwards_to(&reply, "c", "/v2/p?q", "/v2/p?q"));
     Ok(())
+}
+
+/// Whether the reply redirects with this code and URL, and with this `x` in the response.
+fn redirects(reply: &Reply, by: u16, to: &str, word: &str) -> bool {
+    match reply {
+        Reply::Redirect {
+            code,
+            url,
+            response_headers,
+            ..
+        } => *code == by && url.as_slice() == to.as_bytes() && has_x(response_headers, word),
+        _ => false,
+    }
 }
 
 #[test]
 fn a_redirect_edits_the_response_alone(rt: HostRuntime) -> Result<(), Fail> {
-    let alloc = rt.alloc();
-    let words = Words {
+    let plan = Plan {
         route: "2",
-        host: "_",
-        config: "_",
+        ..plain(What::Redirect)
     };
-    let config = table(alloc, redirect(alloc)?, &words, false)?;
-    let reply = reply(alloc, &config, Choice::Chosen { route: 0 }, "GET")?;
-    let Reply::Redirect {
-        code,
-        url,
-        response_headers,
-        ..
-    } = reply
-    else {
-        return Err(Fail::from("reply"));
-    };
-    assert_eq!(rt; code, 302);
-    assert_eq!(rt; url.as_slice(), b"https://h/p?q".as_slice());
-    assert!(rt; has_x(&response_headers, "2"));
+    assert!(rt; redirects(&routed(rt.alloc(), plan)?, 302, "https://h/p?q", "2"));
     Ok(())
+}
+
+/// Whether the reply is the redirect of the host to this URL.
+fn is_tls(reply: &Reply, to: &str) -> bool {
+    match reply {
+        Reply::Tls { url, .. } => url.as_slice() == to.as_bytes(),
+        _ => false,
+    }
 }
 
 #[test]
 fn without_a_route_nothing_is_edited(rt: HostRuntime) -> Result<(), Fail> {
     let alloc = rt.alloc();
-    let config = table(alloc, redirect(alloc)?, &no_words(), false)?;
-    let tls = reply(alloc, &config, Choice::Tls { host: 0 }, "GET")?;
-    let Reply::Tls { url, .. } = tls else {
-        return Err(Fail::from("tls"));
-    };
-    assert_eq!(rt; url.as_slice(), b"https://h/p?q".as_slice());
-    let no_host = reply(alloc, &config, Choice::NoHost, "GET")?;
+    let plan = plain(What::Redirect);
+    let tls = reply(alloc, plan, Choice::Tls { host: 0 }, "GET")?;
+    assert!(rt; is_tls(&tls, "https://h/p?q"));
+    let no_host = reply(alloc, plan, Choice::NoHost, "GET")?;
     assert!(rt; matches!(no_host, Reply::NoHost));
-    let no_route = reply(alloc, &config, Choice::NoRoute { host: 0 }, "GET")?;
+    let no_route = reply(alloc, plan, Choice::NoRoute { host: 0 }, "GET")?;
     assert!(rt; matches!(no_route, Reply::NoRoute { host: 0 }));
     Ok(())
+}
+
+/// Whether the reply forwards with this virtual cluster.
+fn is_counted_as(reply: &Reply, name: &str) -> bool {
+    match reply {
+        Reply::Forward {
+            virtual_cluster,
+            ..
+        } => virtual_cluster.as_str() == name,
+        _ => false,
+    }
 }
 
 #[test]
 fn virtual_clusters_by_their_headers(rt: HostRuntime) -> Result<(), Fail> {
     let alloc = rt.alloc();
-    let act = forward(alloc, "_", HostChange::Keep)?;
-    let config = table(alloc, act, &no_words(), false)?;
-    for (method, name) in [("GET", "get"), ("POST", "other")] {
-        let reply = reply(alloc, &config, Choice::Chosen { route: 0 }, method)?;
-        let Reply::Forward {
-            virtual_cluster,
-            ..
-        } = reply
-        else {
-            return Err(Fail::from("reply"));
-        };
-        assert_eq!(rt; virtual_cluster.as_str(), name);
-    }
+    let chosen = Choice::Chosen { route: 0 };
+    let get = reply(alloc, plain(What::Forward), chosen, "GET")?;
+    assert!(rt; is_counted_as(&get, "get"));
+    let post = reply(alloc, plain(What::Forward), chosen, "POST")?;
+    assert!(rt; is_counted_as(&post, "other"));
     Ok(())
 }

@@ -17,24 +17,19 @@ fn told(alloc: Global, text: &str) -> Result<String, ReadFail> {
     }
 }
 
-/// The first row `KIND PLACE: TEXT` that isn't told so, where TEXT stands between the two texts.
-fn first_wrong<'r>(
-    alloc: Global,
-    rows: &'r str,
-    front: &str,
-    behind: &str,
-) -> Result<Option<&'r str>, ReadFail> {
+/// Fails with the first row `KIND PLACE: TEXT` that isn't told so, where TEXT stands between the two texts.
+fn all_are_told(alloc: Global, rows: &str, front: &str, behind: &str) -> Result<(), Fail> {
     for row in rows.lines() {
         let Some((want, text)) = row.split_once(": ") else {
-            return Ok(Some(row));
+            return Err(Fail::new(row));
         };
         let text = format!(in alloc; "{front}{text}{behind}")?;
         let told = told(alloc, text.as_str())?;
         if told.as_str() != want {
-            return Ok(Some(row));
+            return Err(Fail::new(row));
         }
     }
-    Ok(None)
+    Ok(())
 }
 
 /// What stands before the input of the only test of a file.
@@ -86,9 +81,9 @@ fn offences_have_places(rt: HostRuntime) -> Result<(), Fail> {
     let alloc = rt.alloc();
     let asked =
         r#"{"tests":[{"test_name":"t","input":{"authority":"x.com","path":"/"},"validate":"#;
-    assert_eq!(rt; first_wrong(alloc, FILES, "", "")?, None);
-    assert_eq!(rt; first_wrong(alloc, INPUTS, FRONT, EXPECTED)?, None);
-    assert_eq!(rt; first_wrong(alloc, EXPECTATIONS, asked, "}]}")?, None);
+    all_are_told(alloc, FILES, "", "")?;
+    all_are_told(alloc, INPUTS, FRONT, EXPECTED)?;
+    all_are_told(alloc, EXPECTATIONS, asked, "}]}")?;
     Ok(())
 }
 

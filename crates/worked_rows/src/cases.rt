@@ -1,5 +1,4 @@
 // What `check` writes and how it ends.
-ghost use Rattle.std.specs.Prelude.{◌≡◌, IfOk, length, vec_len};
 
 use check_core::{MemoryFiles, MemorySink, Status, run};
 use std::alloc::Global;

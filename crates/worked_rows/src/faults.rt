@@ -1,6 +1,6 @@
 // Reads and writes that fail, files that are too long, and files and sinks that never fail.
-ghost use Rattle.std.specs.Prelude.{◌≡◌, [], ◌∷◌, List, ℕ, IfOk, IsTrue, codes, is_some, map, string_bytes};
-ghost use Rattle.outside.specs.Contents.{find, contents_of};
+ghost use Rattle.std.specs.Prelude.{◌≡◌, [], ◌∷◌, IfOk, codes, map, string_bytes};
+ghost use Rattle.outside.specs.Contents.{contents_of};
 ghost use Rattle.worked_rows.specs.Names.{HasBoth};
 
 use crate::cases::{CONFIG, PASS_LINES, PASSING, memory_files, memory_sink, two_files, words};

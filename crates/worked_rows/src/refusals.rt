@@ -47,20 +47,14 @@ fn row_holds(
     is_told(alloc, file, text.as_str(), line.as_str())
 }
 
-/// The first row that doesn't hold.
-fn first_wrong<'r>(
-    alloc: Global,
-    file: &str,
-    rows: &'r str,
-    front: &str,
-    behind: &str,
-) -> Result<Option<&'r str>, OutOfMemory> {
+/// Fails with the first row that doesn't hold.
+fn all_hold(alloc: Global, file: &str, rows: &str, front: &str, behind: &str) -> Result<(), Fail> {
     for row in rows.lines() {
         if !row_holds(alloc, file, row, front, behind)? {
-            return Ok(Some(row));
+            return Err(Fail::new(row));
         }
     }
-    Ok(None)
+    Ok(())
 }
 
 /// The first of two spellings of a field is met first, and its second is in conflict with it. A null name isn't there.
@@ -100,12 +94,9 @@ fn each_kind_of_offence_has_its_place(rt: HostRuntime) -> Result<(), Fail> {
     let alloc = rt.alloc();
     let front = r#"{"virtual_hosts":[{"name":"h","domains":["*"],"routes":[{"match":"#;
     let behind = r#","route":{"cluster":"a"}}]}]}"#;
-    assert_eq!(rt;
-        first_wrong(alloc, "config", HOSTS, r#"{"virtual_hosts":["#, "]}")?,
-        None
-    );
-    assert_eq!(rt; first_wrong(alloc, "config", RULES, front, behind)?, None);
-    assert_eq!(rt; first_wrong(alloc, "tests", TESTS, "", "")?, None);
+    all_hold(alloc, "config", HOSTS, r#"{"virtual_hosts":["#, "]}")?;
+    all_hold(alloc, "config", RULES, front, behind)?;
+    all_hold(alloc, "tests", TESTS, "", "")?;
     Ok(())
 }
 
