@@ -1,5 +1,5 @@
 // The order of routes: hosts in order, lists in order, trees by walk.
-ghost use Rattle.std.specs.Prelude.{◌≡◌, ◌+◌, ◌<◌, ◌≤◌, length, flat_map, slice_get};
+ghost use Rattle.std.specs.Prelude.{◌≡◌, ◌<◌, ◌≤◌, length, flat_map, slice_get};
 ghost use Rattle.cfg_types.specs.Order.{IsSought, routes, route_hosts, tree_routes, body_routes, branch_routes, entry_routes, key_routes, then_routes};
 
 use crate::{Body, Config, Entry, KeyThen, Route, Then, Tree, TreeBody};

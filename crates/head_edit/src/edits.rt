@@ -1,5 +1,5 @@
 // The edits of one level.
-ghost use Rattle.std.specs.Prelude.{◌≡◌, ◌<◌, ◌≤◌, ◌+◌, ℕ, length, fold, take, All, IsTrue, OnOk, OnErr};
+ghost use Rattle.std.specs.Prelude.{◌<◌, ◌≤◌, ◌+◌, ℕ, length, fold, take, All, IsTrue, OnOk, OnErr};
 ghost use Rattle.text_base.specs.Heads.{SameHeads};
 ghost use Rattle.http_header.specs.HeaderMap.{IsHeaderMap};
 ghost use Rattle.cfg_types.specs.HeaderEdits.{without_names, added, edited};

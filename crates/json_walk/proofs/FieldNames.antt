@@ -1,5 +1,5 @@
 -- What stands at a field's number.
-use Rattle.std.proofs.Common.{◌≡◌, ℕ, zero, suc, ◌<◌, List, [], ◌∷◌, length, get_or, take, drop, map, Bor, Bool, true, false, cond, ◌&&◌, ◌||◌, ◌+◌, ◌≤◌, Result, Ok, Err, Option, Some, None, option_map, is_some, option_and_then, refl, sym, ap, ◌∙◌, arith}
+use Rattle.std.proofs.Common.{◌≡◌, ℕ, zero, suc, ◌<◌, List, [], ◌∷◌, length, get_or, take, drop, map, Bor, Bool, true, false, cond, ◌&&◌, ◌||◌, ◌+◌, ◌≤◌, Ok, Option, Some, None, option_map, is_some, option_and_then, refl, sym, ap, ◌∙◌, arith}
 use Rattle.std.specs.Bool.{⊤}
 use Rattle.std.proofs.lemmas.List.{length-map, length-take, length-drop, get_or-take, get_or-drop}
 use Rattle.serde_json.specs.View.{view}

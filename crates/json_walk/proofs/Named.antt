@@ -1,12 +1,12 @@
 -- Looking an entry up in two tables, one behind the other.
-use Rattle.std.proofs.Common.{◌≡◌, ℕ, Bool, true, false, cond, ◌||◌, List, [], ◌∷◌, ◌++◌, map, Option, Some, None, bytes_eq, refl, sym, ap, ◌∙◌}
+use Rattle.std.proofs.Common.{◌≡◌, ℕ, Bool, true, false, cond, ◌||◌, List, [], ◌∷◌, ◌++◌, Option, Some, bytes_eq, refl, ap, ◌∙◌}
 use Rattle.std.specs.Option.{option_or}
 use Rattle.serde_json.specs.Data.{Data}
 use Rattle.json_tables.specs.declared.message.Message.{Message}
 use Rattle.json_tables.specs.Spellings.{Spelled, spellings, with_camel}
 use Rattle.json_tables.specs.Fields.{fields}
 use Rattle.json_tables.specs.Carried.{carried}
-use Rattle.json_tables.specs.Refused.{refused, outside}
+use Rattle.json_tables.specs.Refused.{outside}
 use Rattle.json_tables.specs.Unbuilt.{unbuilt}
 use Rattle.json_walk.specs.Members.{named, judge, allowed}
 

@@ -1,5 +1,5 @@
 -- Cases of the rules of reading, by computation.
-use Rattle.std.proofs.Common.{◌≡◌, ℕ, List, [], ◌∷◌, Bool, true, false, Option, Some, None, Ok, refl, ℤ, pos, negsuc}
+use Rattle.std.proofs.Common.{◌≡◌, [], ◌∷◌, true, false, Some, None, Ok, refl, pos, negsuc}
 use Rattle.std.specs.Prelude.{codes, Float}
 use Rattle.serde_json.specs.Data.{Data, null, boolean, number, unsigned, negative, float, string, array, object, no_items, item, no_members, member}
 use Rattle.json_tables.specs.declared.message.Message.TheVariants.{StringMatcher, RegexMatcher, RouteMatch, Validate}

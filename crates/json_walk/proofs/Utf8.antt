@@ -1,11 +1,11 @@
 -- Bytes are read as text first.
-use Rattle.std.proofs.Common.{◌≡◌, ℕ, List, [], Bool, true, false, cond, Option, Some, None, Ok, refl, sym, ap, ◌∙◌}
+use Rattle.std.proofs.Common.{◌≡◌, ℕ, List, [], Bool, true, false, cond, Some, None, Ok, refl}
 use Rattle.std.specs.Str.{is_utf8, IsUtf8}
 use Rattle.std.proofs.lemmas.Str.{IsUtf8-from_is_utf8, is_utf8-from_IsUtf8}
 use Rattle.serde_json.specs.Data.{Data}
 use Rattle.serde_json.specs.Read.{read}
 use Rattle.json_walk.specs.declared.refusal.Kind.TheVariants.{Syntax}
-use Rattle.json_walk.specs.Outcome.{Outcome, offence, or_offence}
+use Rattle.json_walk.specs.Outcome.{offence, or_offence}
 use Rattle.json_walk.specs.Bytes.{value_at}
 
 pub is_value : (bytes : List ℕ) (d : Data) → IsUtf8 bytes × (read bytes ≡ Some d) → value_at bytes ≡ Ok d

@@ -1,5 +1,5 @@
 -- Step 3 of a message: a field that is absent or read whole; and the rules on groups, the first of step 4.
-use Rattle.std.specs.Prelude.{ℕ, List, [], ◌∷◌, ◌++◌, Bool, false, ◌&&◌, ◌||◌, if◌then◌else◌, Option, Some, None, Result, Ok, Err, is_some, option_and_then, ⊤}
+use Rattle.std.specs.Prelude.{ℕ, List, [], ◌∷◌, Bool, false, ◌&&◌, ◌||◌, if◌then◌else◌, Option, Some, None, Ok, is_some, option_and_then, ⊤}
 use Rattle.serde_json.specs.Data.{Data}
 use Rattle.serde_json.specs.Find.{get}
 use Rattle.json_walk.specs.declared.refusal.Kind.TheVariants.{Missing, Conflict}

@@ -1,8 +1,8 @@
 -- Values without members: what stands for a text, a truth, a name of a list, a list.
-use Rattle.std.specs.Prelude.{ℕ, suc, ◌+◌, List, [], ◌∷◌, ◌++◌, length, Bool, nat_le, if◌then◌else◌, Option, Some, None, Result, Ok, Err}
+use Rattle.std.specs.Prelude.{ℕ, suc, ◌+◌, List, [], ◌∷◌, Bool, nat_le, if◌then◌else◌, Option, Some, None, Ok}
 use Rattle.std.specs.List.{position_from}
 use Rattle.std.specs.Str.{bytes_eq}
-use Rattle.serde_json.specs.Data.{Data, Items, no_items, item}
+use Rattle.serde_json.specs.Data.{Items, no_items, item}
 use Rattle.serde_json.specs.Find.{as_str, as_bool, as_array}
 use Rattle.json_walk.specs.declared.refusal.Kind.TheVariants.{WrongKind, TooMany, OutOfRange}
 use Rattle.json_walk.specs.Outcome.{Outcome, offence, or_offence, ◌>>=◌}

@@ -6,7 +6,7 @@ use Rattle.text_base.specs.Alphabets.{is_digit}
 use Rattle.serde_json.specs.Data.{Data, null, boolean, number, string, array, object}
 use Rattle.serde_json.specs.Find.{as_integer}
 use Rattle.json_walk.specs.declared.refusal.Kind.TheVariants.{WrongKind, OutOfRange}
-use Rattle.json_walk.specs.Outcome.{Outcome, offence, or_offence, ◌>>=◌}
+use Rattle.json_walk.specs.Outcome.{offence, or_offence, ◌>>=◌}
 use Rattle.json_walk.specs.Fields.{Reading}
 
 -- 1 to 20 digits

@@ -1,5 +1,5 @@
 // Readers of values without members of their own, for the fields of a message.
-ghost use Rattle.std.specs.Prelude.{◌≡◌, pos, negsuc};
+ghost use Rattle.std.specs.Prelude.{pos, negsuc};
 ghost use Rattle.json_walk.specs.Leaves.{text, truth, list_of as list_read};
 ghost use Rattle.json_walk.specs.Numbers.{whole};
 

@@ -1,5 +1,5 @@
 -- How files and a sink in memory answer, and what a call leaves of them.
-use Rattle.std.specs.Prelude.{ℕ, ◌+◌, ◌-◌, ◌^◌, ◌==◌, ◌||◌, min, Bool, List, if◌then◌else◌, is_none, Vec, nat_eq}
+use Rattle.std.specs.Prelude.{ℕ, ◌+◌, ◌-◌, ◌^◌, ◌==◌, ◌||◌, min, Bool, List, if◌then◌else◌, is_none, Vec}
 use Rattle.std.specs.List.{list_any}
 use Rattle.std.specs.declared.alloc.Global.{Global}
 use Rattle.outside.specs.Contents.{find, contents_of}

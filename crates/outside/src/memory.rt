@@ -1,9 +1,8 @@
 // Files and a sink in memory, which tell their bytes. The listed calls fail.
-ghost use Rattle.std.specs.Prelude.{◌≡◌, ◌≢◌, ◌<◌, ◌≤◌, ◌↔◌, List, ℕ, Some, true, Err, option_map, length, min, max, is_some, is_err, IsTrue, IsOk, IfOk, IsErrOf};
+ghost use Rattle.std.specs.Prelude.{◌≡◌, ◌≢◌, ◌<◌, ◌≤◌, ◌↔◌, Some, true, Err, option_map, length, min, max, is_some, is_err, IsTrue, IsOk, IfOk, IsErrOf};
 ghost use Rattle.outside.specs.Contents.{find, contents_of, ReadsAt, ReadsFrom};
 ghost use Rattle.outside.specs.Faults.{HasCause};
 ghost use Rattle.outside.specs.Written.{Writes, HasWriteCause};
-ghost use Rattle.outside.specs.Contents.{Contents};
 
 use crate::{Failed, Files, Sink, WriteFail};
 use text_base::Text;

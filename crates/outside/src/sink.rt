@@ -1,5 +1,5 @@
 // Where the output goes. A count of faults says when a write may fail.
-ghost use Rattle.std.specs.Prelude.{◌≡◌, ◌<◌, ◌≤◌, List, ℕ, Option, IfOk, length};
+ghost use Rattle.std.specs.Prelude.{◌<◌, ◌≤◌, List, ℕ, Option, IfOk, length};
 ghost use Rattle.outside.specs.Written.{HasWriteCause, Writes};
 
 /// Why a write took nothing.

@@ -1,33 +1,29 @@
 -- Routes and header edits that are read are lawful.
-use Rattle.std.proofs.Common.{◌≡◌, ◌≢◌, ◌≤◌, ◌<◌, ℕ, List, [], ◌∷◌, length, Bool, true, false, ◌&&◌, ◌||◌, ◌==◌, if◌then◌else◌, Option, Some, None, IfOk, IsTrue, Ok, refl, arith, nat_le, lit≤, ℤ, pos, negsuc}
+use Rattle.std.proofs.Common.{◌≡◌, ◌≤◌, ◌<◌, ℕ, List, [], ◌∷◌, length, Bool, true, false, ◌&&◌, ◌==◌, Option, Some, None, IfOk, IsTrue, refl, arith, nat_le, lit≤, ℤ, pos, negsuc}
 use Rattle.std.specs.Prelude.{int_le}
 use Rattle.std.proofs.lemmas.Bool.Decides.{nat_tests}
-use Rattle.std.specs.List.{list_any, list_all}
-use Rattle.std.specs.Prelude.{All, IfSome, unwrap_or, codes}
+use Rattle.std.specs.List.{list_any}
+use Rattle.std.specs.Prelude.{All, IfSome, unwrap_or}
 use Rattle.std.proofs.lemmas.List.Elements.{All-nil}
 use Rattle.serde_json.specs.Data.{Data}
-use Rattle.text_base.specs.Alphabets.{is_printed}
 use Rattle.json_tables.specs.declared.message.Message.TheVariants as messages
 use Rattle.json_tables.specs.Names as name
 use Rattle.json_walk.specs.declared.refusal.Kind.TheVariants.{WrongKind, OutOfRange}
-use Rattle.json_walk.specs.Outcome.{Outcome, offence, or_offence}
+use Rattle.json_walk.specs.Outcome.{or_offence}
 use Rattle.json_walk.specs.Places.{under}
 use Rattle.json_walk.specs.Members.{members_at}
-use Rattle.json_walk.specs.Fields.{Reading, optional, required, alone, must}
+use Rattle.json_walk.specs.Fields.{Reading, optional, required, alone}
 use Rattle.json_walk.specs.Leaves.{text, truth, choice, list_of}
 use Rattle.json_walk.specs.Numbers.{number_said, whole, count}
 use Rattle.json_walk.proofs.ReadFacts.{Reads, after, whatever, where_true, of_required, of_optional, of_maybe, of_list, of_short_list}
-use Rattle.cfg_types.specs.Lawful.{IsLawfulRule, IsLawfulAddition, AreLawfulEdits, IsLawfulPair, IsLawfulShare, AreLawfulShares, IsLawfulTarget, IsLawfulHostChange, IsLawfulForward, IsLawfulPathTo, IsLawfulRedirect, IsLawfulAct, IsLawfulRoute}
-use Rattle.cfg_types.specs.Kinds.{is_matcher_text, is_target_text, is_value_text, is_edit_name}
+use Rattle.cfg_types.specs.Lawful.{IsLawfulRule, IsLawfulAddition, IsLawfulPair, IsLawfulShare, AreLawfulShares, IsLawfulTarget, IsLawfulHostChange, IsLawfulForward, IsLawfulPathTo, IsLawfulRedirect, IsLawfulAct, IsLawfulRoute}
+use Rattle.cfg_types.specs.Kinds.{is_target_text, is_value_text}
 use Rattle.cfg_types.specs.Shares.{weight_of}
 use Rattle.cfg_types.specs.declared.actions.Act.{Act}
 use Rattle.cfg_types.specs.declared.actions.Forward.{Forward}
-use Rattle.cfg_types.specs.declared.actions.HostChange.{HostChange}
-use Rattle.cfg_types.specs.declared.actions.PathTo.{PathTo}
 use Rattle.cfg_types.specs.declared.actions.Redirect.{Redirect}
 use Rattle.cfg_types.specs.declared.actions.Share.{Share}
 use Rattle.cfg_types.specs.declared.actions.Target.{Target}
-use Rattle.cfg_types.specs.declared.changes.Addition.{Addition}
 use Rattle.read_match.specs.Kinds.{matcher_text, target_text, value_text, some_name, field_name, edit_name}
 use Rattle.read_match.specs.Routes.{route_match}
 use Rattle.read_match.proofs.LawfulTexts.{IsMatcher, of_matcher_text, of_target_text, of_value_text, IsSome, of_some_name, IsField, of_field_name, IsEdit, of_edit_name}

@@ -1,5 +1,5 @@
 // Clusters with weights.
-ghost use Rattle.std.specs.Prelude.{◌≡◌, Some, None, nat_le, unwrap_or, if◌then◌else◌};
+ghost use Rattle.std.specs.Prelude.{◌≡◌, Some, None, nat_le, if◌then◌else◌};
 ghost use Rattle.json_walk.specs.Outcome.{Gives};
 ghost use Rattle.json_walk.specs.Numbers.{count};
 ghost use Rattle.cfg_types.specs.Shares.{weight_of};

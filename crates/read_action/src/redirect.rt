@@ -1,5 +1,5 @@
 // Redirects and direct responses.
-ghost use Rattle.std.specs.Prelude.{◌≡◌, [], map, unwrap_or, IfOk};
+ghost use Rattle.std.specs.Prelude.{◌≡◌, map, IfOk};
 ghost use Rattle.serde_json.specs.View.{view};
 ghost use Rattle.json_tables.specs.declared.message.Message.TheVariants as messages;
 ghost use Rattle.json_walk.specs.Outcome.{Gives};

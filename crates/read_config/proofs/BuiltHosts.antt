@@ -8,7 +8,7 @@ use Rattle.json_tables.specs.declared.message.Message.TheVariants as messages
 use Rattle.json_tables.specs.Names as name
 use Rattle.json_walk.specs.declared.refusal.ReadFail.{ReadFail}
 use Rattle.json_walk.specs.Bytes.{value_at}
-use Rattle.json_walk.specs.Outcome.{Outcome, Gives}
+use Rattle.json_walk.specs.Outcome.{Gives}
 use Rattle.json_walk.specs.Members.{members_at}
 use Rattle.json_walk.specs.Fields.{optional, required}
 use Rattle.json_walk.specs.Leaves.{text, list_of}

@@ -1,14 +1,14 @@
 -- A configuration that is read is lawful.
-use Rattle.std.proofs.Common.{◌≡◌, ◌≤◌, ℕ, ◌+◌, suc, List, [], ◌∷◌, ◌++◌, length, map, Bool, true, false, Option, Some, None, Result, Ok, Err, IfOk, refl, sym, ap, ◌∙◌, subst, arith, nat_le, lit<}
+use Rattle.std.proofs.Common.{◌≡◌, ◌≤◌, ℕ, ◌+◌, List, [], ◌∷◌, ◌++◌, length, map, Bool, true, false, Option, Some, None, Result, Ok, Err, IfOk, refl, sym, subst, arith, nat_le, lit<}
 use Rattle.std.proofs.lemmas.Bool.Decides.{nat_tests}
 use Rattle.std.proofs.lemmas.List.Concat.{length-flat_map}
 use Rattle.std.proofs.lemmas.List.Elements.{All-nil}
 use Rattle.std.specs.List.{AllZip, enumerate_from}
-use Rattle.std.specs.Prelude.{All, Contains, flat_map, unwrap_or, codes, sum_by}
+use Rattle.std.specs.Prelude.{All, Contains, flat_map, unwrap_or, codes}
 use Rattle.serde_json.specs.Data.{Data, Items, no_items, item}
 use Rattle.json_tables.specs.declared.message.Message.TheVariants as messages
 use Rattle.json_tables.specs.Names as name
-use Rattle.json_walk.specs.declared.refusal.Kind.TheVariants.{TooMany, NotInProfile}
+use Rattle.json_walk.specs.declared.refusal.Kind.TheVariants.{TooMany}
 use Rattle.json_walk.specs.declared.refusal.ReadFail.{ReadFail}
 use Rattle.json_walk.specs.Bytes.{value_at}
 use Rattle.json_walk.specs.Outcome.{Outcome, Gives, ◌>>=◌}
@@ -16,12 +16,11 @@ use Rattle.json_walk.specs.Places.{under, at_index}
 use Rattle.json_walk.specs.Members.{members_at}
 use Rattle.json_walk.specs.Fields.{Reading, field, optional, required}
 use Rattle.json_walk.specs.Leaves.{text, list, items, list_of}
-use Rattle.json_walk.proofs.ReadFacts.{Reads, after, whatever, where_true, where_false, weaker, of_outcome, of_list}
-use Rattle.cfg_types.specs.Lawful.{IsLawful, IsLawfulHost, IsLawfulPair, domains}
+use Rattle.json_walk.proofs.ReadFacts.{after, whatever, where_true, weaker, of_outcome, of_list}
+use Rattle.cfg_types.specs.Lawful.{IsLawful, IsLawfulHost, IsLawfulPair}
 use Rattle.cfg_types.specs.Order.{routes_of_hosts, host_routes}
 use Rattle.cfg_types.specs.Places.{Places, element, member, list_places, body_places}
 use Rattle.cfg_types.specs.declared.configs.Config.{Config}
-use Rattle.cfg_types.specs.declared.configs.Domain.{Domain}
 use Rattle.cfg_types.specs.declared.configs.Host.{Host}
 use Rattle.cfg_types.specs.declared.routes.Route.{Route}
 use Rattle.read_match.specs.Kinds.{some_name}

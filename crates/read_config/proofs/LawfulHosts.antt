@@ -1,13 +1,13 @@
 -- A host that is read is lawful.
-use Rattle.std.proofs.Common.{◌≡◌, ◌≢◌, ◌≤◌, ℕ, List, [], ◌∷◌, length, IfOk, Some, None, lit≤}
+use Rattle.std.proofs.Common.{◌≢◌, ◌≤◌, ℕ, List, [], ◌∷◌, length, IfOk, Some, None, lit≤}
 use Rattle.std.specs.Prelude.{All, unwrap_or}
 use Rattle.std.proofs.lemmas.List.Elements.{All-nil}
 use Rattle.json_tables.specs.declared.message.Message.TheVariants as messages
 use Rattle.json_tables.specs.Names as name
 use Rattle.json_walk.specs.Members.{members_at}
 use Rattle.json_walk.specs.Fields.{optional, required}
-use Rattle.json_walk.specs.Leaves.{text, list_of}
-use Rattle.json_walk.proofs.ReadFacts.{Reads, after, whatever, where_false, of_required, of_optional, of_list, of_short_list}
+use Rattle.json_walk.specs.Leaves.{list_of}
+use Rattle.json_walk.proofs.ReadFacts.{Reads, after, whatever, of_required, of_optional, of_list, of_short_list}
 use Rattle.cfg_types.specs.Lawful.{IsLawfulHost, IsLawfulCluster, IsLawfulDomain, IsLawfulHeader, IsLawfulRoute, IsLawfulPair}
 use Rattle.cfg_types.specs.declared.configs.Domain.{Domain}
 use Rattle.cfg_types.specs.declared.configs.Tls.TheVariants as tls

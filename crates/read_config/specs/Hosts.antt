@@ -1,6 +1,5 @@
 -- VirtualCluster and VirtualHost, each as its row of the table: the fields in order, then the rules.
-use Rattle.std.specs.Prelude.{ℕ, List, [], ◌∷◌, ◌==◌, if◌then◌else◌, codes, Option, Some, None, unwrap_or, Result, Ok, Err, ⊤}
-use Rattle.serde_json.specs.Data.{Data}
+use Rattle.std.specs.Prelude.{ℕ, List, [], ◌∷◌, ◌==◌, if◌then◌else◌, codes, Some, None, unwrap_or, Ok, ⊤}
 use Rattle.json_tables.specs.declared.message.Message.TheVariants as messages
 use Rattle.json_tables.specs.Names as name
 use Rattle.json_walk.specs.declared.refusal.Kind.TheVariants.{Missing}

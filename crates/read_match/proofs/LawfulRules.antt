@@ -1,5 +1,5 @@
 -- Rules that are read are lawful.
-use Rattle.std.proofs.Common.{◌≡◌, ◌≤◌, ℕ, List, [], ◌∷◌, length, Bool, true, false, not, ◌&&◌, ◌||◌, ◌==◌, if◌then◌else◌, Option, Some, None, IfOk, IsTrue, Ok, Err, refl, ap, ◌∙◌, arith, nat_le, ℤ, pos}
+use Rattle.std.proofs.Common.{◌≡◌, ◌≤◌, ℕ, List, [], ◌∷◌, length, Bool, true, false, not, ◌&&◌, ◌||◌, ◌==◌, if◌then◌else◌, Option, Some, None, IfOk, IsTrue, Ok, Err, refl, arith, nat_le, ℤ}
 use Rattle.std.specs.List.{list_any}
 use Rattle.std.specs.Prelude.{All, IfSome, unwrap_or}
 use Rattle.std.proofs.lemmas.List.Elements.{All-nil}
@@ -8,23 +8,21 @@ use Rattle.json_tables.specs.declared.message.Message.TheVariants as messages
 use Rattle.json_tables.specs.Names as name
 use Rattle.text_base.specs.Forms.{ends}
 use Rattle.json_walk.specs.declared.refusal.Kind.TheVariants.{TooMany, BadText}
-use Rattle.json_walk.specs.Outcome.{Outcome, offence}
+use Rattle.json_walk.specs.Outcome.{offence}
 use Rattle.json_walk.specs.Places.{under}
 use Rattle.json_walk.specs.Members.{members_at}
 use Rattle.json_walk.specs.Fields.{optional, required, alone, must}
 use Rattle.json_walk.specs.Leaves.{truth, choice, list_of}
 use Rattle.json_walk.specs.Numbers.{count}
-use Rattle.json_walk.proofs.ReadFacts.{Reads, after, whatever, where_true, where_false, of_required, of_optional, of_maybe, of_list}
+use Rattle.json_walk.proofs.ReadFacts.{Reads, after, whatever, where_false, of_required, of_optional, of_maybe, of_list}
 use Rattle.cfg_types.specs.Lawful.{IsLawfulPattern, IsLawfulForm, IsLawfulText, IsLawfulPath, IsLawfulValue, IsLawfulHeader, IsLawfulQuery, IsLawfulFraction, IsLawfulRule}
-use Rattle.cfg_types.specs.Kinds.{is_empty, is_matcher_text, is_path_text, is_separated_text, is_query_name}
+use Rattle.cfg_types.specs.Kinds.{is_path_text, is_separated_text, is_query_name}
 use Rattle.cfg_types.specs.declared.rules.Fraction.{Fraction}
-use Rattle.cfg_types.specs.declared.rules.HeaderForm.{HeaderForm}
 use Rattle.cfg_types.specs.declared.rules.HeaderRule.{HeaderRule}
 use Rattle.cfg_types.specs.declared.rules.Pattern.{Pattern}
 use Rattle.cfg_types.specs.declared.rules.PathRule.{PathRule}
 use Rattle.cfg_types.specs.declared.rules.PathRule.TheVariants as path
 use Rattle.cfg_types.specs.declared.rules.QueryRule.{QueryRule}
-use Rattle.cfg_types.specs.declared.rules.TextForm.{TextForm}
 use Rattle.cfg_types.specs.declared.rules.TextRule.{TextRule}
 use Rattle.read_match.specs.Kinds.{matcher_text, path_text, field_name, query_name}
 use Rattle.read_match.specs.Patterns.{pattern_from, pattern}

@@ -1,5 +1,5 @@
 // The first part of a request that breaks its rules.
-ghost use Rattle.std.specs.Prelude.{◌≡◌, ◌⊎◌, ◌<◌, true, not, ◌&&◌, ℕ, List, Some, None, IfErr, OnOk, IfSome, position, length, bytes_eq};
+ghost use Rattle.std.specs.Prelude.{◌≡◌, ◌⊎◌, ◌<◌, not, ◌&&◌, Some, None, IfErr, OnOk, position, bytes_eq};
 ghost use Rattle.std.specs.List.{list_all, list_any};
 ghost use Rattle.text_base.specs.Alphabets as alphabet;
 ghost use Rattle.text_base.specs.Requests as rule;

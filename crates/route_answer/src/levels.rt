@@ -1,5 +1,5 @@
 // The levels of header edits, in the order in which they apply.
-ghost use Rattle.std.specs.Prelude.{◌≡◌, ◌≤◌, IfOk, IfSome, length};
+ghost use Rattle.std.specs.Prelude.{◌≡◌, ◌≤◌, IfOk, length};
 ghost use Rattle.std.specs.Option.{option_copied};
 ghost use Rattle.cfg_types.specs.Answers as definition;
 ghost use Rattle.cfg_types.specs.Lawful.{IsLawfulTarget, IsLawfulAct};

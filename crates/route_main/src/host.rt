@@ -1,5 +1,5 @@
 // The real files and the real output. They tell no bytes, and count the host's failures.
-ghost use Rattle.std.specs.Prelude.{◌≡◌, ◌≤◌, None, true, length, IfOk};
+ghost use Rattle.std.specs.Prelude.{◌≤◌, None, true, length, IfOk};
 
 use check_core::{Failed, Files, Sink, WriteFail};
 use std::fs::File;

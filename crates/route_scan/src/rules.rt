@@ -1,5 +1,5 @@
 // The rules of a configuration's routes as a test of these.
-ghost use Rattle.std.specs.Prelude.{◌≡◌, ◌≤◌, ◌++◌, ℕ, length, map, IfOk, OnOk, IsTrue};
+ghost use Rattle.std.specs.Prelude.{◌≡◌, ◌≤◌, ◌++◌, ℕ, length, IfOk, OnOk, IsTrue};
 ghost use Rattle.cfg_types.specs.Built.{is_built};
 ghost use Rattle.route_scan.specs.Tests.{AreTestsOf, accepted_by, most_room, rules_of, route_rules};
 

@@ -1,6 +1,6 @@
 //! The classes of bytes by number.
 
-ghost use Rattle.std.specs.Prelude.{◌≡◌, ◌<◌, ◌≤◌, ◌↔◌, ℕ, length, min, slice_index, IfOk, IfSome, IfNone};
+ghost use Rattle.std.specs.Prelude.{◌≡◌, ◌<◌, ◌≤◌, ℕ, length, min, slice_index, IfOk, IfSome, IfNone};
 ghost use Rattle.rx_class.specs.Classes.{AreAlike, AreClasses};
 
 use crate::sets::alike;

@@ -1,6 +1,6 @@
 //! Sets of bytes, from tests of single bytes.
 
-ghost use Rattle.std.specs.Prelude.{◌≡◌, Bool};
+ghost use Rattle.std.specs.Prelude.{◌≡◌};
 ghost use Rattle.rx_parse.specs.Kinds.{is_within as within_test, is_any as any_test, is_digit as digit_test, is_punct as punct_test, is_set_letter as letter_test};
 ghost use Rattle.rx_parse.specs.Sets.{is_word as word_test, is_in_range as range_test, is_in_escape as escape_test, holds as holds_test};
 ghost use Rattle.rx_parse.specs.Answer.{set_with};

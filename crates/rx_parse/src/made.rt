@@ -1,6 +1,6 @@
 //! What was read: terms with their positions.
 
-ghost use Rattle.std.specs.Prelude.{◌≡◌, ◌+◌, ◌*◌, ◌≤◌, ◌++◌, List, ◌∷◌, IfOk, replicate};
+ghost use Rattle.std.specs.Prelude.{◌≡◌, ◌+◌, ◌*◌, ◌++◌, List, ◌∷◌, IfOk, replicate};
 ghost use Rattle.rx_term.specs.declared.terms.Term.{Term};
 ghost use Rattle.rx_term.specs.Term.{cat as cat_term, alt as alt_term};
 ghost use Rattle.rx_term.specs.Pattern.{kept, repeated as repeated_term, multiplied as multiplied_number, row as row_of};

@@ -1,21 +1,20 @@
 -- What a reply tells of is text: the bytes of valid requests and of lawful configurations are those of ASCII.
-use Rattle.std.proofs.Common.{◌≡◌, ◌⊎◌, inl, inr, ℕ, zero, suc, ◌<◌, ◌≤◌, ◌-◌, ◌/◌, ◌%◌, Bool, true, false, ◌&&◌, if◌then◌else◌, List, [], ◌∷◌, ◌++◌, Option, Some, None, length, take, drop, get_or, slice_get, refl, sym, subst, arith}
-use Rattle.std.specs.Prelude.{◌==◌, not, All, codes, bytes_eq, decimal, option_and_then, unwrap_or, filter}
-use Rattle.std.specs.List.{list_all, list_any, fold, position_or_len, suffix_len}
-use Rattle.std.specs.Str.{IsUtf8, IsAscii}
+use Rattle.std.proofs.Common.{◌≡◌, ◌⊎◌, inl, inr, ℕ, zero, suc, ◌<◌, ◌≤◌, ◌-◌, ◌/◌, ◌%◌, Bool, true, false, ◌&&◌, if◌then◌else◌, List, [], ◌∷◌, ◌++◌, length, take, drop, get_or, refl, arith}
+use Rattle.std.specs.Prelude.{◌==◌, not, All, codes, bytes_eq, decimal}
+use Rattle.std.specs.List.{list_all, position_or_len, suffix_len}
+use Rattle.std.specs.Str.{IsUtf8}
 use Rattle.std.proofs.lemmas.Bool.{and_parts, cases_lt}
 use Rattle.std.proofs.lemmas.Bool.Decides.{nat_tests}
 use Rattle.std.proofs.lemmas.List.{get_or_past}
-use Rattle.std.proofs.lemmas.List.Elements.{All-nil, All-cons, All-head, All-tail, All-append, All-drop, All-take, All-filter}
+use Rattle.std.proofs.lemmas.List.Elements.{All-nil, All-cons, All-head, All-tail, All-append, All-drop, All-take}
 use Rattle.std.proofs.lemmas.Str.{IsUtf8-from_ascii}
 use Rattle.std.specs.Fmt.{digits, digits_onto, digit_glyph}
 use Rattle.text_base.specs.Asked.{Bytes, Head, Asked}
 use Rattle.text_base.specs.Alphabets.{is_authority_byte, is_token_byte, is_target_byte, is_printed}
-use Rattle.text_base.specs.Forms.{ends}
 use Rattle.text_base.specs.Hosts.{host_text, has_port}
 use Rattle.text_base.specs.Requests.{some_of, is_authority, is_target, is_method, is_runtime, is_header, is_header_name, is_header_value, is_valid}
 use Rattle.text_base.specs.Heads.{proto_head, internal_heads, heads}
-use Rattle.text_base.specs.Seen.{values, not_empty, path_of, query_part}
+use Rattle.text_base.specs.Seen.{values, path_of, query_part}
 
 -- ---- bytes
 

@@ -1,6 +1,6 @@
 -- Header edits of lawful configurations leave values that are ASCII.
-use Rattle.std.proofs.Common.{◌≡◌, ℕ, ◌<◌, Bool, true, false, ◌&&◌, if◌then◌else◌, List, [], ◌∷◌, ◌++◌, refl, arith}
-use Rattle.std.specs.Prelude.{◌==◌, not, All, bytes_eq, filter, IsTrue}
+use Rattle.std.proofs.Common.{ℕ, ◌<◌, Bool, true, false, ◌&&◌, if◌then◌else◌, List, [], ◌∷◌, arith}
+use Rattle.std.specs.Prelude.{◌==◌, not, All, bytes_eq}
 use Rattle.std.specs.List.{list_any, fold}
 use Rattle.std.proofs.lemmas.List.Elements.{All-nil, All-cons, All-head, All-tail, All-append, All-filter}
 use Rattle.text_base.specs.Asked.{Bytes, Head}

@@ -15,9 +15,9 @@ use Rattle.text_base.specs.Heads.{heads}
 use Rattle.text_base.specs.Seen.{values, not_empty, path_of, query_part, has_byte}
 use Rattle.cfg_types.specs.Order.{routes}
 use Rattle.cfg_types.specs.Targets.{swapped, rewritten, target_for, new_target}
-use Rattle.cfg_types.specs.Redirects.{or_text, proto, scheme_of, port_part, without_ending, own_port, kept_host, host_part, with_query, whole_target, target_part, url_of, redirect_url, tls_url}
+use Rattle.cfg_types.specs.Redirects.{or_text, proto, scheme_of, port_part, without_ending, own_port, kept_host, host_part, with_query, target_part, url_of, redirect_url}
 use Rattle.cfg_types.specs.Answers.{first_value, share_of, levels, forwarded_heads, authority_of, host_of_route, reply_by, reply_at, reply_of, IsSameReply, IsReply}
-use Rattle.cfg_types.specs.Lawful.{IsLawful, IsLawfulAct, IsLawfulHostChange, IsLawfulPathTo, IsLawfulPair, IsLawfulRedirect, IsLawfulForward}
+use Rattle.cfg_types.specs.Lawful.{IsLawful, IsLawfulAct, IsLawfulHostChange, IsLawfulPathTo, IsLawfulPair, IsLawfulRedirect}
 use Rattle.cfg_types.specs.declared.configs.Config.{Config}
 use Rattle.cfg_types.specs.declared.configs.Host.{Host}
 use Rattle.cfg_types.specs.declared.routes.Route.{Route}

@@ -1,6 +1,6 @@
 -- The lines of `check`: compact JSON with members in byte order, each followed by a line feed.
-use Rattle.std.specs.Prelude.{ℕ, ◌≤◌, ◌⊎◌, ◌≡◌, List, [], ◌∷◌, ◌++◌, length, map, flat_map, if◌then◌else◌, codes, slice_index_or, All}
-use Rattle.serde_json.specs.Data.{Data, number, string, array, object, Items, no_items, item, no_members, member, unsigned}
+use Rattle.std.specs.Prelude.{ℕ, ◌≤◌, ◌⊎◌, ◌≡◌, List, [], ◌∷◌, ◌++◌, length, map, flat_map, if◌then◌else◌, codes, slice_index_or}
+use Rattle.serde_json.specs.Data.{Data, number, string, array, object, no_members, member, unsigned}
 use Rattle.serde_json.specs.View.{items_of}
 use Rattle.serde_json.specs.Written.{compact_text}
 use Rattle.text_base.specs.Asked.{Bytes}

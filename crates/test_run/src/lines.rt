@@ -1,5 +1,5 @@
 // The lines of `check`.
-ghost use Rattle.std.specs.Prelude.{◌≡◌, ◌<◌, ◌∷◌, All, false, map, IfOk};
+ghost use Rattle.std.specs.Prelude.{◌≡◌, ◌<◌, All, false, map, IfOk};
 ghost use Rattle.serde_json.specs.View.{view};
 ghost use Rattle.serde_json.specs.Written.{has_float};
 ghost use Rattle.test_run.specs.Lines.{IsNamed, line_of as line_of_value, field_name as name_of_field, text_failure_value, header_failure_value, failure_value as value_of_failure, verdict_word, verdict_value as value_of_verdict, verdict_line as line_of_verdict, sum_line as line_of_sums, sum_value as value_of_sums};

@@ -1,4 +1,3 @@
-use Rattle.std.proofs.Common.{◌≡◌, arith}
 use Rattle.json_walk.proofs.FieldNames.{alone_goes, alone_stops, alone_done}
 use Rattle.json_walk.proofs.fields.alone.Goals as goal
 

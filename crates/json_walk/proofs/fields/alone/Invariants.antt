@@ -1,4 +1,4 @@
-use Rattle.std.proofs.Common.{◌≡◌, false, take, drop}
+use Rattle.std.proofs.Common.{◌≡◌, take, drop}
 use Rattle.serde_json.specs.View.{view}
 use Rattle.json_tables.specs.Fields.{fields}
 use Rattle.json_walk.specs.Fields.{alone, alone_after}

@@ -1,4 +1,3 @@
-use Rattle.std.proofs.Common.{◌≡◌}
 use Rattle.std.proofs.lemmas.Result.{err_from_is_err_and}
 use Rattle.json_walk.proofs.Elements.{reads_on, ends_at, is_read}
 use Rattle.json_walk.proofs.leaves.read_items.Goals as goal

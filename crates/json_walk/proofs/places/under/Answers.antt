@@ -1,4 +1,4 @@
-use Rattle.std.proofs.Common.{◌≡◌, ℕ, List, ◌++◌, string_bytes, sym, ap, ◌∙◌, refl, append_assoc}
+use Rattle.std.proofs.Common.{ℕ, List, ◌++◌, string_bytes, sym, ap, ◌∙◌, refl, append_assoc}
 use Rattle.std.proofs.Math.Utf8.{encode}
 use Rattle.json_walk.proofs.Escape.{escape_more}
 use Rattle.json_walk.proofs.places.under.Goals as goal

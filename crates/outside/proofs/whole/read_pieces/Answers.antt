@@ -1,8 +1,5 @@
-use Rattle.std.proofs.Common.{rules, ap, ◌≡◌, ◌≤◌, ◌-◌, ◌∙◌, ℕ, List, ◌++◌, length, take, drop, arith, length-append, length-take}
-use Rattle.std.specs.Prelude.{vec_len}
+use Rattle.std.proofs.Common.{rules, ap, ◌≡◌, ◌∙◌, ℕ, ◌++◌, length, take, drop, arith, length-take}
 use Rattle.std.proofs.lemmas.List.{take-append-le}
-use Rattle.std.proofs.lemmas.Grind.{common_steps}
-use Rattle.outside.specs.Contents.{BeginsWith, ReadsFrom}
 use Rattle.outside.proofs.Parts.{begins_step}
 use Rattle.outside.proofs.whole.read_pieces.Goals as goal
 

@@ -1,6 +1,5 @@
-use Rattle.std.proofs.Common.{◌≡◌, ◌∙◌, sym, subst, List}
+use Rattle.std.proofs.Common.{◌∙◌, sym, subst, List}
 use Rattle.serde_json.specs.View.{view}
-use Rattle.std.specs.Prelude.{unwrap_or, []}
 use Rattle.cfg_types.specs.declared.configs.Host.{Host}
 use Rattle.read_config.proofs.BuiltHosts.{AllListed, hosts_listed}
 use Rattle.read_config.proofs.config.route_configuration.Goals as goal

@@ -1,4 +1,4 @@
-use Rattle.std.proofs.Common.{◌≡◌, ℕ, length, get_or, false, ap, ◌∙◌, List, Bool}
+use Rattle.std.proofs.Common.{get_or, false, ap, ◌∙◌, List, Bool}
 use Rattle.test_run.proofs.Counted.{covered_flags}
 use Rattle.test_run.proofs.coverage.count_covered.Goals as goal
 
