@@ -4,14 +4,15 @@ ghost use Rattle.std.specs.Prelude.{◌≡◌, ◌<◌, ◌≤◌, ◌+◌, ◌^
 ghost use Rattle.rx_term.specs.declared.terms.Term.{Term};
 ghost use Rattle.rx_term.specs.Language.{In, after, accepting, nullable};
 ghost use Rattle.rx_auto.specs.Node.{term_at};
-ghost use Rattle.rx_auto.specs.Marks.{IsMarked};
+ghost use Rattle.rx_auto.specs.Marks.{AreBelow, IsMarked};
 ghost use Rattle.rx_auto.specs.Live.{IsAscending, AddsNumbers, IsBehind, HasPlaces};
 ghost use Rattle.rx_class.specs.Classes.{sets_of, AreClasses, IsClassOf, IsClassCount};
 
 use crate::dag::Dag;
 use crate::firsts::all_firsts;
 use crate::live::put_ways;
-use crate::marks::{advance, clear};
+use crate::marks::advance;
+use crate::members::Members;
 use crate::parts::{MOST, Parts, Spot};
 use crate::states::{Scratch, StateSet};
 use crate::ways::Ways;
@@ -132,11 +133,11 @@ impl Table {
         ensures { IfOk result (λ s. (length s.marks ≡ length self.now.terms) × (s.room ≡ self.now.room)
             × IsMarked self.now.terms s.marks (term_at self.now.terms 0 ∷ [])) }
     {
-        let mut row = vec![in alloc; false; self.spots.len()]?;
-        row[0] = true;
+        let mut row = Members::new(alloc, self.spots.len() as u32)?;
+        row.put(0);
         Ok(StateSet {
             row,
-            nodes: vec![in alloc; false; self.room() as usize]?,
+            nodes: Members::new(alloc, self.room())?,
         })
     }
 
@@ -152,12 +153,12 @@ impl Table {
     }
 
     /// Whether one of the marked derivatives has the empty text.
-    fn ends(&self, row: &[bool]) -> bool
-        requires { length self.now.terms ≤ length row.now }
-        ensures { (set : List Term) → IsMarked self.now.terms row.now set → (IsTrue result ↔ (accepting set ≡ true)) }
+    fn ends(&self, row: &Members) -> bool
+        requires { AreBelow row.now.marks (length self.now.terms) }
+        ensures { (set : List Term) → IsMarked self.now.terms row.now.marks set → (IsTrue result ↔ (accepting set ≡ true)) }
     {
-        for (p, spot) in self.spots.iter().enumerate() {
-            if row[p] && spot.ends {
+        for k in 0..row.count() {
+            if self.spots[row.at(k)].ends {
                 return true;
             }
         }
@@ -173,22 +174,26 @@ impl Table {
     }
 
     /// Marks the table's own term alone.
-    fn begin(&self, row: &mut [bool])
-        requires { length self.now.terms ≤ length row.old }
-        ensures { IsMarked self.now.terms row.new (term_at self.now.terms 0 ∷ []) }
+    fn begin(&self, row: &mut Members)
+        requires { length self.now.terms ≤ length row.old.marks }
+        ensures long { length row.new.marks ≡ length row.old.marks }
+        ensures within { AreBelow row.new.marks (length self.now.terms) }
+        ensures state { IsMarked self.now.terms row.new.marks (term_at self.now.terms 0 ∷ []) }
     {
-        let n = self.spots.len();
-        clear(row, n);
-        if n > 0 {
-            row[0] = true;
-        }
+        let _ = &self.spots;
+        row.clear();
+        row.put(0);
     }
 
     /// Marks what a byte leads to.
-    fn shift(&self, row: &mut [bool], nodes: &mut [bool], byte: u8)
-        requires row { length self.now.terms ≤ length row.old }
-        requires nodes { self.now.room ≤ length nodes.old }
-        ensures { (set : List Term) → IsMarked self.now.terms row.old set → IsMarked self.now.terms row.new (after byte set) }
+    fn shift(&self, row: &mut Members, nodes: &mut Members, byte: u8)
+        requires row { length self.now.terms ≤ length row.old.marks }
+        requires nodes { self.now.room ≤ length nodes.old.marks }
+        requires within { AreBelow row.old.marks (length self.now.terms) }
+        ensures row { length row.new.marks ≡ length row.old.marks }
+        ensures nodes { length nodes.new.marks ≡ length nodes.old.marks }
+        ensures within { AreBelow row.new.marks (length self.now.terms) }
+        ensures state { (set : List Term) → IsMarked self.now.terms row.old.marks set → IsMarked self.now.terms row.new.marks (after byte set) }
     {
         advance(&self.ways, &self.spots, &self.reps, nodes, row, byte);
     }
