@@ -11,8 +11,6 @@ mod place;
 mod read;
 mod reader;
 mod step;
-#[cfg(test)]
-mod tests;
 
 pub use fault::RxFault;
 pub use laws::answer_law;

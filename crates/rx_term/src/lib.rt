@@ -5,8 +5,6 @@ mod laws;
 mod layers;
 mod sets;
 mod terms;
-#[cfg(test)]
-mod tests;
 
 pub use laws::{closing_law, counting_law, derivative_law, membership_law, one_fault};
 pub use sets::ByteSet;

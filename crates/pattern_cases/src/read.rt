@@ -1,81 +1,68 @@
 //! Worked patterns and their faults.
 
-ghost use Rattle.std.specs.Prelude.{◌≤◌, length};
-
-use crate::{RxFault, answer_law, parse};
-use rx_term::{ByteSet, Term};
-use std::alloc::{AllocError, Global};
+use crate::made::term_of;
+use rx_parse::{RxFault, parse};
+use std::alloc::Global;
 use std::test::Fail;
 
-/// What a text spells, in words: the size of its term, or its fault.
-fn verdict_of(alloc: Global, text: &[u8]) -> Result<String, AllocError>
-    requires { length text.now ≤ 512 }
-{
+/// What a text spells, in one word, and a number: the size of its term, the offset of its fault or its positions.
+fn verdict_of(alloc: Global, text: &[u8]) -> (&'static str, u64) {
+    if text.len() > 512 {
+        return ("long", 0);
+    }
     match parse(alloc, text) {
-        Ok(term) => format!(in alloc; "term {}", term.size()),
-        Err(RxFault::Syntax { at }) => format!(in alloc; "syntax {at}"),
-        Err(RxFault::NotInSubset { at }) => format!(in alloc; "outside {at}"),
-        Err(RxFault::TooLarge { positions }) => format!(in alloc; "large {positions}"),
-        Err(RxFault::OutOfMemory) => Err(AllocError),
+        Ok(term) => ("term", term.size()),
+        Err(RxFault::Syntax { at }) => ("syntax", at as u64),
+        Err(RxFault::NotInSubset { at }) => ("outside", at as u64),
+        Err(RxFault::TooLarge { positions }) => ("large", positions as u64),
+        Err(RxFault::OutOfMemory) => ("memory", 0),
     }
 }
 
+/// Whether the row `WORD NUMBER PATTERN` says what the pattern spells.
+fn row_holds(alloc: Global, row: &str) -> bool {
+    let Some((word, rest)) = row.split_once(' ') else {
+        return false;
+    };
+    let Some((number, pattern)) = rest.split_once(' ') else {
+        return false;
+    };
+    let (told, size) = verdict_of(alloc, pattern.as_bytes());
+    told == word && number.parse::<u64>() == Ok(size)
+}
+
 #[test]
-fn patterns_have_their_terms_and_other_texts_their_faults(rt: HostRuntime) -> Result<(), Fail> {
+fn patterns_have_their_terms_and_other_texts_their_faults(rt: HostRuntime) {
     for row in ROWS.lines() {
-        let (kind, rest) = row.split_once(' ').ok_or("no kind")?;
-        let (number, pattern) = rest.split_once(' ').ok_or("no number")?;
-        let text = pattern.as_bytes();
-        assert!(rt; text.len() <= 512);
-        let verdict = verdict_of(rt.alloc(), text)?;
-        let want = format!(in rt.alloc(); "{kind} {number}")?;
-        assert_eq!(rt; verdict, want, "{pattern}");
+        assert!(rt; row_holds(rt.alloc(), row), "{row}");
     }
-    Ok(())
 }
 
-/// The set of the bytes of a text.
-fn set_of_bytes(text: &[u8]) -> ByteSet {
-    let mut bits = 0u128;
-    for byte in text {
-        if *byte < 128 {
-            bits |= 1 << u32::from(*byte);
-        }
-    }
-    ByteSet(bits)
+/// Whether the pattern's term is that of the text in postfix order.
+fn has_term(alloc: Global, pattern: &str, text: &str) -> Result<bool, Fail> {
+    let term = term_of(alloc, text)?;
+    let bytes = pattern.as_bytes();
+    Ok(bytes.len() <= 512 && parse(alloc, bytes).is_ok_and(|parsed| parsed.same(&term)))
 }
 
 #[test]
-fn a_term_is_built_as_the_pattern_says(rt: HostRuntime) -> Result<(), Fail> {
-    let alloc = rt.alloc();
-    let a = Term::one(set_of_bytes(b"Aa"))?;
-    let b = Term::one(set_of_bytes(b"Bb"))?;
-    let want = Term::cat(alloc, a, Term::alt(alloc, Term::Empty, b)?)?;
-    assert!(rt; parse(alloc, b"(?i)^ab?$").is_ok_and(|term| term.same(&want)));
+fn terms_are_built_as_their_patterns_say(rt: HostRuntime) -> Result<(), Fail> {
+    assert!(rt; has_term(rt.alloc(), "(?i)^ab?$", "A1B|.")?);
+    assert!(rt; has_term(rt.alloc(), "", "1")?);
     Ok(())
-}
-
-#[test]
-fn the_empty_text_is_the_empty_term(rt: HostRuntime) {
-    assert!(rt; parse(rt.alloc(), b"").is_ok_and(|term| term.same(&Term::Empty)));
 }
 
 #[test]
 fn bytes_outside_of_the_alphabet_begin_no_piece(rt: HostRuntime) {
-    for text in [b"a\x7f", b"a\x80", b"a\n"] {
-        assert_eq!(rt;
-            parse(rt.alloc(), text).err(),
-            Some(RxFault::Syntax { at: 1 })
+    for byte in [0x7f, 0x80, b'\n'] {
+        assert!(rt;
+            verdict_of(rt.alloc(), &[b'a', byte]) == ("syntax", 1),
+            "{byte}"
         );
     }
 }
 
-#[test]
-fn the_law_can_be_called() {
-    answer_law();
-}
-
-/// A kind, a number and a pattern in each line: the size of its term, the offset of its fault or its positions.
+/// A word, a number and a pattern in each line: the size of its term, the offset of its fault or its positions.
 const ROWS: &str = r#"term 5 (?i)^ab?$
 term 1 []-a]
 term 1 [^]]
