@@ -10,16 +10,16 @@ ghost use Rattle.rx_auto.specs.Classes.{sets_of, AreClasses, IsClassOf, IsClassC
 
 use crate::classes::Classes;
 use crate::dag::Dag;
-use crate::firsts::all_firsts;
+use crate::firsts::firsts_of;
 use crate::live::put_ways;
 use crate::marks::advance;
 use crate::members::Members;
-use crate::parts::{MOST, Parts, Spot};
+use crate::parts::{Parts, Spot};
 use crate::sets::add_sets;
 use crate::states::{Scratch, StateSet};
 use crate::ways::Ways;
-use rx_term::{ByteSet, OutOfMemory, Term};
-use std::alloc::{AllocError, Global};
+use rx_term::{OutOfMemory, Term};
+use std::alloc::Global;
 use std::marker::Model;
 
 /// The partial derivatives of a term, one for each position, and where each leads.
@@ -61,35 +61,10 @@ impl Table {
     pub fn build(alloc: Global, term: &Term) -> Result<Table, OutOfMemory>
         ensures { IfOk result (λ t. (0 < length t.terms) × (term_at t.terms 0 ≡ term.now)) }
     {
-        let mut parts = Parts {
-            dag: Dag::new(alloc),
-            ways: Ways::new(alloc),
-            spots: Vec::new(alloc),
-        };
-        parts.spots.push(Spot {
-            set: ByteSet(0),
-            tail: 0,
-            ends: false,
-            next: 0,
-        })?;
-        let piece = parts.fill(alloc, term)?;
-        let Parts {
-            dag,
-            ways,
-            mut spots,
-        } = parts;
-        spots[0] = Spot {
-            set: ByteSet(0),
-            tail: piece.node,
-            ends: piece.nullable,
-            next: piece.first,
-        };
-        if spots.len() > MOST || ways.len() > MOST {
-            return Err(AllocError);
-        }
-        dag.known();
-        let reps = all_firsts(alloc, &spots, dag.len())?;
+        let parts = Parts::of(alloc, term)?;
+        let reps = firsts_of(alloc, &parts)?;
         let classes = classes_of(alloc, term)?;
+        let Parts { dag, ways, spots } = parts;
         Ok(Table {
             dag,
             ways,
