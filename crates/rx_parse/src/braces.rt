@@ -32,7 +32,7 @@ impl Reader {
             let braces = Braces::Least(digits + 1, next as u8);
             Some(self.at(Place::InBraces(braces)))
         } else {
-            None
+            self.refused()
         }
     }
 
@@ -53,7 +53,7 @@ impl Reader {
         } else if byte == b'}' && digits > 0 {
             Ok(Some(self.quantify(alloc, Often::Exactly(value))?))
         } else {
-            Ok(None)
+            Ok(self.refused())
         }
     }
 
@@ -67,7 +67,7 @@ impl Reader {
             let braces = Braces::Most(least, digits + 1, next as u8);
             Some(self.at(Place::InBraces(braces)))
         } else {
-            None
+            self.refused()
         }
     }
 
@@ -85,13 +85,13 @@ impl Reader {
         if is_digit(byte) {
             Ok(self.most_digit(least, digits, value, byte))
         } else if byte != b'}' {
-            Ok(None)
+            Ok(self.refused())
         } else if digits == 0 {
             Ok(Some(self.quantify(alloc, Often::AtLeast(least))?))
         } else if least <= value {
             Ok(Some(self.quantify(alloc, Often::Between(least, value))?))
         } else {
-            Ok(None)
+            Ok(self.refused())
         }
     }
 

@@ -45,7 +45,7 @@ impl Reader {
         } else if is_any(byte) && !(bare && byte == b':') {
             Some(self.at(Place::InClass(Class::Single(byte, byte == b'['))))
         } else {
-            None
+            self.refused()
         }
     }
 
@@ -115,7 +115,7 @@ impl Reader {
         } else if is_any(byte) && byte != b'-' && single <= byte {
             Some(self.with(Bytes::Range(fold, single, byte), Class::Item(byte == b'[')))
         } else {
-            None
+            self.refused()
         }
     }
 
@@ -127,7 +127,7 @@ impl Reader {
             let dash = Bytes::Range(false, b'-', b'-');
             Some(self.with(dash, Class::Dashed).close_class())
         } else {
-            None
+            self.refused()
         }
     }
 
@@ -140,7 +140,7 @@ impl Reader {
         } else if is_set_letter(byte) {
             Some(self.with(Bytes::Escape(byte), Class::Item(false)))
         } else {
-            None
+            self.refused()
         }
     }
 
@@ -152,7 +152,7 @@ impl Reader {
         if is_punct(byte) && single <= byte {
             Some(self.with(Bytes::Range(fold, single, byte), Class::Item(false)))
         } else {
-            None
+            self.refused()
         }
     }
 

@@ -10,6 +10,7 @@ use crate::place::{Braces, Class, Kind, Place, kind_of};
 use rx_term::ByteSet;
 use sqlite_items::Items;
 use std::alloc::{AllocError, Global};
+use std::mem::replace;
 
 /// A pattern that was read up to some byte.
 #[derive(Drop)]
@@ -52,6 +53,13 @@ impl Reader {
         Reader { place, ..self }
     }
 
+    /// Nothing, as no pattern goes on so.
+    pub fn refused(self) -> Option<Reader>
+        ensures { result ≡ None }
+    {
+        None
+    }
+
     /// Behind an atom of these bytes.
     fn behind(self, bytes: Bytes) -> Reader
         ensures { result ≡ behind_atom self bytes }
@@ -64,118 +72,47 @@ impl Reader {
     }
 
     /// What is pending is a piece of the choice.
-    pub fn add(self) -> Result<Reader, AllocError>
+    pub fn add(mut self) -> Result<Reader, AllocError>
         ensures { IfOk result (λ reader. reader ≡ added self) }
     {
-        let Reader {
-            fold,
-            outer,
-            top,
-            pending,
-            negated,
-            set,
-            place: _,
-        } = self;
-        let Frame {
-            branches,
-            mut pieces,
-        } = top;
-        pieces.push(pending)?;
-        Ok(Reader {
-            fold,
-            outer,
-            top: Frame { branches, pieces },
-            pending: one(ByteSet(0)),
-            negated,
-            set,
-            place: Place::Ready,
-        })
+        let piece = replace(&mut self.pending, one(ByteSet(0)));
+        self.top.pieces.push(piece)?;
+        self.place = Place::Ready;
+        Ok(self)
     }
 
     /// Goes into a group.
-    fn open(self, alloc: Global) -> Result<Reader, AllocError>
+    fn open(mut self, alloc: Global) -> Result<Reader, AllocError>
         ensures { IfOk result (λ reader. reader ≡ opened_group self) }
     {
-        let Reader {
-            fold,
-            mut outer,
-            top,
-            pending,
-            negated,
-            set,
-            place: _,
-        } = self;
-        outer.push(top)?;
-        Ok(Reader {
-            fold,
-            outer,
-            top: Frame::new(alloc),
-            pending,
-            negated,
-            set,
-            place: Place::Ready,
-        })
+        let above = replace(&mut self.top, Frame::new(alloc));
+        self.outer.push(above)?;
+        self.place = Place::Ready;
+        Ok(self)
     }
 
     /// Leaves the innermost group, if one is open.
-    fn close(self, alloc: Global) -> Result<Option<Reader>, AllocError>
+    fn close(mut self, alloc: Global) -> Result<Option<Reader>, AllocError>
         ensures { IfOk result (λ left. left ≡ left_group self.outer self) }
     {
-        let Reader {
-            fold,
-            mut outer,
-            top,
-            pending: _,
-            negated,
-            set,
-            place: _,
-        } = self;
-        let Some(above) = outer.pop() else {
-            return Ok(None);
+        let Some(above) = self.outer.pop() else {
+            return Ok(self.refused());
         };
-        let pending = top.finish(alloc)?;
-        Ok(Some(Reader {
-            fold,
-            outer,
-            top: above,
-            pending,
-            negated,
-            set,
-            place: Place::Atomic,
-        }))
+        let group = replace(&mut self.top, above);
+        self.pending = group.finish(alloc)?;
+        self.place = Place::Atomic;
+        Ok(Some(self))
     }
 
     /// Ends the last alternative.
-    fn bar(self, alloc: Global) -> Result<Reader, AllocError>
+    fn bar(mut self, alloc: Global) -> Result<Reader, AllocError>
         ensures { IfOk result (λ reader. reader ≡ barred self) }
     {
-        let Reader {
-            fold,
-            outer,
-            top,
-            pending,
-            negated,
-            set,
-            place: _,
-        } = self;
-        let Frame {
-            mut branches,
-            pieces,
-        } = top;
+        let pieces = replace(&mut self.top.pieces, Items::new(alloc));
         let last = row(alloc, pieces)?;
-        branches.push(last)?;
-        Ok(Reader {
-            fold,
-            outer,
-            top: Frame {
-                branches,
-                pieces: Items::new(alloc),
-            },
-            pending,
-            negated,
-            set,
-            place: Place::Ready,
-        })
+        self.top.branches.push(last)?;
+        self.place = Place::Ready;
+        Ok(self)
     }
 
     /// Goes into a class.
@@ -191,29 +128,14 @@ impl Reader {
     }
 
     /// What is pending comes as often as said.
-    pub fn quantify(self, alloc: Global, often: Often) -> Result<Reader, AllocError>
+    pub fn quantify(mut self, alloc: Global, often: Often) -> Result<Reader, AllocError>
         requires { IsOrdered often }
         ensures { IfOk result (λ reader. reader ≡ quantified (times_of often) self) }
     {
-        let Reader {
-            fold,
-            outer,
-            top,
-            pending,
-            negated,
-            set,
-            place: _,
-        } = self;
-        let pending = repeat(alloc, often, pending)?;
-        Ok(Reader {
-            fold,
-            outer,
-            top,
-            pending,
-            negated,
-            set,
-            place: Place::Counted,
-        })
+        let atom = replace(&mut self.pending, one(ByteSet(0)));
+        self.pending = repeat(alloc, often, atom)?;
+        self.place = Place::Counted;
+        Ok(self)
     }
 
     /// A byte where a piece may begin and nothing is pending.
@@ -235,7 +157,7 @@ impl Reader {
             | Kind::Question
             | Kind::Brace
             | Kind::Caret
-            | Kind::Foreign => Ok(None),
+            | Kind::Foreign => Ok(self.refused()),
         }
     }
 
@@ -246,7 +168,7 @@ impl Reader {
         if self.outer.is_empty() {
             Some(self.at(Place::Ended))
         } else {
-            None
+            self.refused()
         }
     }
 
@@ -313,7 +235,7 @@ impl Reader {
         } else if first && byte == b'i' {
             Ok(Some(self.at(Place::Flagging)))
         } else {
-            Ok(None)
+            Ok(self.refused())
         }
     }
 
@@ -324,7 +246,7 @@ impl Reader {
         if byte == b')' {
             Some(Reader::new(alloc, true, Place::Begun))
         } else {
-            None
+            self.refused()
         }
     }
 
@@ -338,7 +260,7 @@ impl Reader {
         } else if is_set_letter(byte) {
             Some(self.behind(Bytes::Escape(byte)))
         } else {
-            None
+            self.refused()
         }
     }
 }

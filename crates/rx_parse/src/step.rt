@@ -19,7 +19,7 @@ impl Reader {
             Place::Ready => self.plain(alloc, byte),
             Place::Atomic => self.behind_atom(alloc, byte),
             Place::Counted => self.behind_quantifier(alloc, byte),
-            Place::Ended => Ok(None),
+            Place::Ended => Ok(self.refused()),
             Place::Escaped => Ok(self.escaped(byte)),
             Place::Opened(first) => self.opened(alloc, first, byte),
             Place::Marked(first) => self.marked(alloc, first, byte),
@@ -36,12 +36,19 @@ impl Reader {
         self.top.finish(alloc)
     }
 
+    /// Nothing, as the text isn't at a pattern's end.
+    fn unfinished(self) -> Option<Made>
+        ensures { result ≡ None }
+    {
+        None
+    }
+
     /// What the whole text spells, or none where it is no pattern.
     pub fn finish(self, alloc: Global) -> Result<Option<Made>, AllocError>
         ensures { IfOk result (λ made. made ≡ whole_at self.place self.outer self) }
     {
         if !self.outer.is_empty() {
-            return Ok(None);
+            return Ok(self.unfinished());
         }
         match self.place {
             Place::Begin | Place::Begun | Place::Ready | Place::Ended => {
@@ -52,7 +59,7 @@ impl Reader {
                 let made = self.add()?.whole(alloc)?;
                 Ok(Some(made))
             }
-            _ => Ok(None),
+            _ => Ok(self.unfinished()),
         }
     }
 }
