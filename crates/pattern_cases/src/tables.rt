@@ -3,7 +3,7 @@
 ghost use Rattle.std.specs.Prelude.{◌≡◌, length};
 
 use crate::made::{optional_row, row, starred, term_of};
-use rx_auto::{Members, Scratch, Table, Words, put};
+use rx_auto::{Members, Scratch, StateSet, Table, Words, put};
 use rx_term::{OutOfMemory, Term};
 use sqlite_items::Items;
 use std::alloc::Global;
@@ -36,20 +36,34 @@ fn matches_letters(alloc: Global, table: &Table, letters: usize) -> Result<bool,
     matches(alloc, table, &text)
 }
 
+/// Steps the state, and tells whether that changes it.
+fn changes(
+    alloc: Global,
+    table: &Table,
+    state: &mut StateSet,
+    byte: u8,
+) -> Result<bool, OutOfMemory>
+    requires row { length state.old.marks ≡ length table.now.terms }
+    requires room { state.old.room ≡ table.now.room }
+    ensures row { length state.new.marks ≡ length table.now.terms }
+    ensures room { state.new.room ≡ table.now.room }
+{
+    let before = state.copy(alloc)?;
+    table.step(state, byte);
+    Ok(!state.same(&before))
+}
+
 /// Whether `/` leaves the start and ends nowhere, a letter ends, and one more of them changes nothing.
 fn steps_are_right(alloc: Global, table: &Table) -> Result<bool, OutOfMemory> {
     let mut state = table.start(alloc)?;
-    let start = state.copy(alloc)?;
     let begun = table.accepts(&state);
-    table.step(&mut state, b'/');
-    let behind = table.accepts(&state) || state.same(&start);
+    let left = changes(alloc, table, &mut state, b'/')?;
+    let behind = table.accepts(&state);
     table.step(&mut state, b'a');
     let ended = table.accepts(&state);
-    let letter = state.copy(alloc)?;
-    table.step(&mut state, b'c');
-    let kept = state.same(&letter);
+    let left_again = changes(alloc, table, &mut state, b'c')?;
     table.step(&mut state, b'd');
-    Ok(!begun && !behind && ended && kept && !table.accepts(&state))
+    Ok(!begun && left && !behind && ended && !left_again && !table.accepts(&state))
 }
 
 /// Where `/` and a letter lead from the first of four places, counted from 100, with 7 put in before.
