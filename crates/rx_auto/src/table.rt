@@ -61,9 +61,9 @@ impl Table {
     pub fn build(alloc: Global, term: &Term) -> Result<Table, OutOfMemory>
         ensures { IfOk result (λ t. (0 < length t.terms) × (term_at t.terms 0 ≡ term.now)) }
     {
+        let classes = classes_of(alloc, term)?;
         let parts = Parts::of(alloc, term)?;
         let reps = firsts_of(alloc, &parts)?;
-        let classes = classes_of(alloc, term)?;
         let Parts { dag, ways, spots } = parts;
         Ok(Table {
             dag,

@@ -46,6 +46,13 @@ impl Reader {
         }
     }
 
+    /// A reader with the same flag that holds nothing of the pattern's body.
+    fn anew(self, alloc: Global, place: Place) -> Reader
+        ensures { result ≡ new_reader self.fold place }
+    {
+        Reader::new(alloc, self.fold, place)
+    }
+
     /// The same at another place.
     pub fn at(self, place: Place) -> Reader
         ensures { result ≡ at_place self place }
@@ -178,7 +185,7 @@ impl Reader {
     {
         match kind_of(byte) {
             Kind::Opening => Ok(Some(self.at(Place::Opened(true)))),
-            Kind::Caret => Ok(Some(Reader::new(alloc, self.fold, Place::Ready))),
+            Kind::Caret => Ok(Some(self.anew(alloc, Place::Ready))),
             _ => self.at(Place::Ready).plain(alloc, byte),
         }
     }
@@ -188,7 +195,7 @@ impl Reader {
         ensures { IfOk result (λ next. next ≡ begun_of self byte (kind_at byte)) }
     {
         match kind_of(byte) {
-            Kind::Caret => Ok(Some(Reader::new(alloc, self.fold, Place::Ready))),
+            Kind::Caret => Ok(Some(self.anew(alloc, Place::Ready))),
             _ => self.at(Place::Ready).plain(alloc, byte),
         }
     }
