@@ -16,8 +16,8 @@ fn alone(byte: u8) -> ByteSet
     ByteSet(1u128 << u32::from(byte))
 }
 
-/// The set that a byte of a text stands for: `2` is `[a-c]`, `3` is `[c-e]`, `4` is the byte 127, `A` and `B` are letters of
-/// both cases, and any other byte of the alphabet is itself alone.
+/// The set that a byte of a text stands for: `2` is `[a-c]`, `3` is `[c-e]`, `4` is the byte 127, `A` and `B` are letters
+/// of both cases, and any other byte below 128 is itself alone.
 fn set_of(byte: u8) -> ByteSet {
     match byte {
         b'2' => LETTERS,
