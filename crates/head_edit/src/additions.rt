@@ -7,7 +7,7 @@ ghost use Rattle.cfg_types.specs.Lawful.{IsLawfulAddition};
 ghost use Rattle.head_edit.specs.Maps.{heads_of};
 
 use crate::maps::append;
-use crate::values::{name_of, undoubled, value_of};
+use crate::values::{name_of, undoubled_value};
 use cfg_types::{Addition, How};
 use http_header::{HeaderMap, HeaderMapError, HeaderName, HeaderValue, MAX_KEYS};
 use std::alloc::Global;
@@ -77,6 +77,6 @@ pub fn add(
         return Ok(());
     }
     let name = name_of(alloc, addition.name.as_bytes())?;
-    let value = value_of(undoubled(alloc, text)?)?;
+    let value = undoubled_value(alloc, text)?;
     add_as(map, addition.how, name, value)
 }

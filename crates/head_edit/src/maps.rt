@@ -48,8 +48,7 @@ pub fn add_head(
     let count = map.len();
     prove!(count < MAX_KEYS);
     let name = name_of(alloc, name)?;
-    let value = value_of(Vec::from_slice(alloc, value)?)?;
-    append(map, name, value)
+    append(map, name, value_of(alloc, value)?)
 }
 
 /// Adds these headers in order, each behind those of its name, by the conditions of `add_head`. Without memory some first
@@ -87,14 +86,20 @@ pub fn map_of(
     Ok(map)
 }
 
+fn head_of(alloc: Global, name: &[u8], value: &[u8]) -> Result<(Items<u8>, Items<u8>), OutOfMemory>
+    ensures { IfOk result (λ h. h ≡ (name.now, value.now)) }
+{
+    let name = Items::from_slice(alloc, name)?;
+    Ok((name, Items::from_slice(alloc, value)?))
+}
+
 /// The headers of a map: names in the map's order, the values of each name in theirs.
 pub fn heads_from(alloc: Global, map: &HeaderMap<HeaderValue>) -> Result<Heads, OutOfMemory>
     ensures { IfOk result (λ heads. heads.list ≡ heads_of map.now) }
 {
     let mut list = Items::new(alloc);
     for (name, value) in map.iter() {
-        let name = Items::from_slice(alloc, name.as_bytes())?;
-        list.push((name, Items::from_slice(alloc, value.as_bytes())?))?;
+        list.push(head_of(alloc, name.as_bytes(), value.as_bytes())?)?;
     }
     Ok(Heads { list })
 }

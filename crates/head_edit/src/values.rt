@@ -21,8 +21,7 @@ pub fn name_of(alloc: Global, name: &[u8]) -> Result<HeaderName, OutOfMemory>
     }
 }
 
-/// The value of these bytes.
-pub fn value_of(value: Vec<u8>) -> Result<HeaderValue, OutOfMemory>
+fn value_from(value: Vec<u8>) -> Result<HeaderValue, OutOfMemory>
     requires { list_all is_printed value.items ≡ true }
     ensures { IfOk result (λ v. v.bytes ≡ value.items) }
 {
@@ -33,8 +32,24 @@ pub fn value_of(value: Vec<u8>) -> Result<HeaderValue, OutOfMemory>
     }
 }
 
+/// The value of these bytes.
+pub fn value_of(alloc: Global, value: &[u8]) -> Result<HeaderValue, OutOfMemory>
+    requires { list_all is_printed value.now ≡ true }
+    ensures { IfOk result (λ v. v.bytes ≡ value.now) }
+{
+    value_from(Vec::from_slice(alloc, value)?)
+}
+
+/// The value of these bytes with each `%%` made `%`, from the left.
+pub fn undoubled_value(alloc: Global, value: &[u8]) -> Result<HeaderValue, OutOfMemory>
+    requires { list_all is_printed value.now ≡ true }
+    ensures { IfOk result (λ v. v.bytes ≡ undoubled_of value.now) }
+{
+    value_from(undoubled(alloc, value)?)
+}
+
 /// The bytes with each `%%` made `%`, from the left.
-pub fn undoubled(alloc: Global, value: &[u8]) -> Result<Vec<u8>, OutOfMemory>
+fn undoubled(alloc: Global, value: &[u8]) -> Result<Vec<u8>, OutOfMemory>
     ensures { IfOk result (λ v. v.items ≡ undoubled_of value.now) }
 {
     let mut single = Vec::new(alloc);

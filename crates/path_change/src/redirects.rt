@@ -1,5 +1,5 @@
 // The URLs of redirects.
-ghost use Rattle.std.specs.Prelude.{◌≡◌, ◌++◌, IfOk, IfSome, IsSome, OnOk, string_bytes};
+ghost use Rattle.std.specs.Prelude.{◌≡◌, ◌++◌, codes, IfOk, IfSome, IsSome, OnOk, string_bytes};
 ghost use Rattle.cfg_types.specs.Redirects as definition;
 ghost use Rattle.path_change.specs.Paths.{redirect_of, path_to, keeps_query as query_stays};
 
@@ -112,6 +112,26 @@ fn push_target(
     url.extend_from_slice(query_of(request))
 }
 
+/// Appends the port that the redirect sets.
+fn push_port(alloc: Global, url: &mut Vec<u8>, port: u16) -> Result<(), OutOfMemory>
+    ensures { OnOk result (url.new.items ≡ url.old.items ++ definition.port_part port) }
+{
+    let text = port_text(alloc, port)?;
+    url.extend_from_slice(text.as_bytes())
+}
+
+/// What stands before the target in the URL.
+fn origin_of(alloc: Global, redirect: &Redirect, parts: &Parts) -> Result<Vec<u8>, OutOfMemory>
+    ensures { IfOk result (λ v. v.items ≡ definition.scheme_of redirect.now parts.now ++ codes "://" ++ definition.host_part redirect.now parts.now ++ definition.port_part redirect.now.port) }
+{
+    let host = or_text(redirect.host.as_bytes(), kept_host(redirect, parts));
+    let mut url = Vec::from_slice(alloc, scheme_of(redirect, parts))?;
+    url.extend_from_slice(b"://")?;
+    url.extend_from_slice(host)?;
+    push_port(alloc, &mut url, redirect.port)?;
+    Ok(url)
+}
+
 /// The URL of a route that redirects: the scheme, `://`, the host, the port and the target.
 pub fn redirect_url(alloc: Global, route: &Route, request: &Request) -> Result<Vec<u8>, OutOfMemory>
     requires { IsSome (redirect_of route.now.act) }
@@ -120,13 +140,7 @@ pub fn redirect_url(alloc: Global, route: &Route, request: &Request) -> Result<V
     let Act::Redirect(redirect) = &route.act else {
         unreachable!()
     };
-    let parts = request.parts();
-    let host = or_text(redirect.host.as_bytes(), kept_host(redirect, parts));
-    let port = port_text(alloc, redirect.port)?;
-    let mut url = Vec::from_slice(alloc, scheme_of(redirect, parts))?;
-    url.extend_from_slice(b"://")?;
-    url.extend_from_slice(host)?;
-    url.extend_from_slice(port.as_bytes())?;
+    let mut url = origin_of(alloc, redirect, request.parts())?;
     push_target(&mut url, &route.rule.path, redirect, request)?;
     Ok(url)
 }
