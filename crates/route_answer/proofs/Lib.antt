@@ -1,5 +1,4 @@
 mod LevelValues
-pub mod LawfulLevels
 mod StartHeads
 mod FirstValues
 mod Owners

@@ -3,7 +3,7 @@ ghost use Rattle.std.specs.Prelude.{◌≡◌, ◌≤◌, IfOk, length};
 ghost use Rattle.std.specs.Option.{option_copied};
 ghost use Rattle.cfg_types.specs.Answers as definition;
 ghost use Rattle.cfg_types.specs.Lawful.{IsLawfulTarget, IsLawfulAct};
-ghost use Rattle.route_answer.specs.Levels.{pairs_of, share_in};
+ghost use Rattle.route_answer.specs.Levels.{pairs_of};
 
 use cfg_types::{Act, Config, EditPair, Host, Route, Share, Target};
 use path_change::pick_share;
@@ -28,7 +28,7 @@ fn share_of<'a>(target: &'a Target, request: &Request) -> Option<&'a Share>
 /// The share that the action picks for the request. Only forwarding picks one. Takes no memory.
 pub fn picked_share<'a>(act: &'a Act, request: &Request) -> Option<&'a Share>
     requires { IsLawfulAct act.now }
-    ensures { option_copied result ≡ share_in act.now request.now }
+    ensures { option_copied result ≡ definition.share_in act.now request.now }
 {
     match act {
         Act::Forward(forward) => share_of(&forward.to, request),

@@ -8,7 +8,6 @@ mod starts;
 mod trial;
 
 pub use cfg_types::{Choice, Reply};
-pub use route_answer::answer;
 pub use router::Router;
 pub use rules::{Rules, room_of, rule_tests};
 pub use scan::{Scan, choose_by_rules};

@@ -16,7 +16,7 @@ use Rattle.text_base.specs.Seen.{values, not_empty, path_of, query_part, has_byt
 use Rattle.cfg_types.specs.Order.{routes}
 use Rattle.cfg_types.specs.Targets.{swapped, rewritten, target_for, new_target}
 use Rattle.cfg_types.specs.Redirects.{or_text, proto, scheme_of, port_part, without_ending, own_port, kept_host, host_part, with_query, target_part, url_of, redirect_url}
-use Rattle.cfg_types.specs.Answers.{first_value, share_of, levels, forwarded_heads, authority_of, host_of_route, reply_by, reply_at, reply_of, IsSameReply, IsReply}
+use Rattle.cfg_types.specs.Answers.{first_value, share_of, share_in, levels, forwarded_heads, authority_of, host_of_route, reply_by, reply_at, reply_of, IsSameReply, IsReply}
 use Rattle.cfg_types.specs.Lawful.{IsLawful, IsLawfulAct, IsLawfulHostChange, IsLawfulPathTo, IsLawfulPair, IsLawfulRedirect}
 use Rattle.cfg_types.specs.declared.configs.Config.{Config}
 use Rattle.cfg_types.specs.declared.configs.Host.{Host}
@@ -35,9 +35,8 @@ use Rattle.cfg_types.specs.declared.answers.Choice.{Choice}
 use Rattle.cfg_types.specs.declared.answers.Choice.TheVariants as choice
 use Rattle.cfg_types.specs.declared.answers.Reply.{Reply}
 use Rattle.cfg_types.specs.declared.answers.Reply.TheVariants as reply
+use Rattle.cfg_types.proofs.LawfulLevels.{route_lawful, levels_lawful}
 use Rattle.test_read.specs.declared.test.Test.{Test}
-use Rattle.route_answer.proofs.LawfulLevels.{route_lawful, levels_lawful}
-use Rattle.route_answer.specs.Levels.{share_in}
 use Rattle.test_run.specs.Verdicts.{cluster_in, route_in, host_in, host_name, authority_in, target_in, url_in, AreTexts, text_failure, failures_of}
 use Rattle.test_run.proofs.Ascii.{Ascii, HasAscii, IsPlain, plain, nothing, in_front, joined, front, rest, either, of_printed, of_visible, of_decimal, is_text, path_ascii, query_ascii, host_ascii, heads_ascii, values_ascii, proto_ascii}
 use Rattle.test_run.proofs.AsciiEdits.{levels_ascii}

@@ -2,7 +2,7 @@ use Rattle.std.proofs.Common.{sym, subst, ap, ◌∙◌}
 use Rattle.std.specs.Prelude.{All}
 use Rattle.cfg_types.specs.Lawful.{IsLawfulPair}
 use Rattle.route_answer.specs.Levels.{pairs_of}
-use Rattle.route_answer.proofs.LawfulLevels.{route_lawful, levels_lawful}
+use Rattle.cfg_types.proofs.LawfulLevels.{route_lawful, levels_lawful}
 use Rattle.route_answer.proofs.replies.routed.Goals as goal
 
 pub picked_share-requires : goal.picked_share-requires

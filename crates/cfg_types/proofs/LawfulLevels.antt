@@ -6,7 +6,7 @@ use Rattle.text_base.specs.Asked.{Asked}
 use Rattle.cfg_types.specs.Order.{routes, routes_of_hosts, route_hosts, host_routes, body_routes}
 use Rattle.cfg_types.specs.Shares.{picked_share}
 use Rattle.cfg_types.specs.HeaderEdits.{in_order}
-use Rattle.cfg_types.specs.Answers.{share_of, share_levels, levels, host_of_route}
+use Rattle.cfg_types.specs.Answers.{share_of, share_in, share_levels, levels, host_of_route}
 use Rattle.cfg_types.specs.Lawful.{IsLawful, IsLawfulHost, IsLawfulBody, IsLawfulRoute, IsLawfulAct, IsLawfulTarget, IsLawfulShare, IsLawfulPair}
 use Rattle.cfg_types.specs.declared.configs.Config.{Config}
 use Rattle.cfg_types.specs.declared.configs.Host.{Host}
@@ -20,7 +20,6 @@ use Rattle.cfg_types.specs.declared.actions.Act.TheVariants as act
 use Rattle.cfg_types.specs.declared.actions.Target.{Target}
 use Rattle.cfg_types.specs.declared.actions.Target.TheVariants as to
 use Rattle.cfg_types.proofs.Members.{All-at, Has-get}
-use Rattle.route_answer.specs.Levels.{share_in}
 
 -- ---- hosts, routes and shares
 
