@@ -9,6 +9,3 @@ mod values;
 pub use edits::{MAX_HEADS, apply};
 pub use maps::{add_head, add_heads, heads_from, map_of};
 pub use text_base::{Heads, OutOfMemory};
-
-#[cfg(test)]
-mod tests;

@@ -7,6 +7,3 @@ mod hosts;
 
 pub use authority::host_text;
 pub use hosts::Hosts;
-
-#[cfg(test)]
-mod tests;

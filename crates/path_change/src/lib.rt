@@ -11,6 +11,3 @@ pub use clusters::cluster_of;
 pub use redirects::{redirect_url, tls_url};
 pub use shares::pick_share;
 pub use targets::new_target;
-
-#[cfg(test)]
-mod tests;

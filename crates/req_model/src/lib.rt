@@ -10,6 +10,3 @@ mod search;
 
 pub use request::Request;
 pub use text_base::{BadRequest, Field, Heads, OutOfMemory, Parts, Text};
-
-#[cfg(test)]
-mod tests;

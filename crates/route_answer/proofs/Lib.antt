@@ -2,4 +2,3 @@ mod LevelValues
 mod StartHeads
 mod FirstValues
 mod Owners
-mod OneRoute

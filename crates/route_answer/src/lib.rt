@@ -9,6 +9,3 @@ mod replies;
 
 pub use cfg_types::{Choice, Reply};
 pub use replies::answer;
-
-#[cfg(test)]
-mod tests;

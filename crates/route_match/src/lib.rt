@@ -16,6 +16,3 @@ pub use path::PathTest;
 pub use query::QueryTest;
 pub use route::RouteTest;
 pub use rx_auto::Scratch;
-
-#[cfg(test)]
-mod tests;

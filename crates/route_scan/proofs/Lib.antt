@@ -2,4 +2,3 @@ pub mod Accepted
 pub mod Chosen
 pub mod Firsts
 pub mod Gathered
-pub mod Anywhere

@@ -12,6 +12,3 @@ pub use router::Router;
 pub use rules::{Rules, room_of, rule_tests};
 pub use scan::{Scan, choose_by_rules};
 pub use trial::Trial;
-
-#[cfg(test)]
-mod tests;

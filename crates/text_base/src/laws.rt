@@ -5,11 +5,3 @@ ghost use Rattle.text_base.specs.Requests.{ValidLaw};
 pub fn valid_law()
     ensures { ValidLaw }
 {}
-
-#[cfg(test)]
-mod tests {
-    #[test]
-    fn law_is_called() {
-        super::valid_law();
-    }
-}

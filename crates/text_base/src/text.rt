@@ -57,21 +57,3 @@ impl Text {
         self.as_bytes() == other.as_bytes()
     }
 }
-
-#[cfg(test)]
-mod tests {
-    use super::*;
-    use std::test::Fail;
-
-    #[test]
-    fn text_keeps_its_bytes(rt: HostRuntime) -> Result<(), Fail> {
-        let text = Text::of(rt.alloc(), "a.com")?;
-        assert_eq!(rt; text.as_str(), "a.com");
-        assert_eq!(rt; text.as_bytes(), b"a.com".as_slice());
-        let copy = text.copy(rt.alloc())?;
-        assert!(rt; copy.same(&text));
-        let other = Text::of(rt.alloc(), "A.com")?;
-        assert!(rt; !copy.same(&other));
-        Ok(())
-    }
-}

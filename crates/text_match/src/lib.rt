@@ -9,6 +9,3 @@ pub use compare::{begins, equals};
 pub use pattern::PatternTest;
 pub use rx_auto::Scratch;
 pub use text::TextTest;
-
-#[cfg(test)]
-mod tests;

@@ -1,5 +1,5 @@
 use Rattle.route_scan.proofs.Accepted.{paths_hold, same_count}
-use Rattle.route_scan.proofs.tests.choice_over.Goals as goal
+use Rattle.routing_cases.proofs.trials.choice_over.Goals as goal
 
 pub choose-choice-requires-clause-size : goal.choose-choice-requires-clause-size
 choose-choice-requires-clause-size c = same_count c.args.scan.now c.args.tests.now c.requires.tests
