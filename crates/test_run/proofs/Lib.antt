@@ -3,3 +3,4 @@ pub mod Floats
 pub mod Ascii
 pub mod AsciiEdits
 pub mod ReplyTexts
+pub mod Rows
