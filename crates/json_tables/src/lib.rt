@@ -6,8 +6,6 @@ mod fields;
 mod laws;
 mod message;
 mod outside;
-#[cfg(test)]
-mod tests;
 mod unbuilt;
 
 pub use carried::carried_of;

@@ -8,8 +8,6 @@ mod numbers;
 mod places;
 mod readers;
 mod refusal;
-#[cfg(test)]
-mod tests;
 mod value;
 mod walk;
 

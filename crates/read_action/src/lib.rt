@@ -6,8 +6,6 @@ mod edits;
 mod forward;
 mod redirect;
 mod route;
-#[cfg(test)]
-mod tests;
 
 pub use edits::read_edits;
 pub use route::{PlainRoute, TypedRoute, read_route};

@@ -6,8 +6,6 @@ mod domains;
 mod host;
 mod repeats;
 mod rules;
-#[cfg(test)]
-mod tests;
 
 ghost use Rattle.std.specs.Prelude.{IfOk, IsTrue};
 ghost use Rattle.json_walk.specs.Outcome.{Gives};

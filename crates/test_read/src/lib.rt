@@ -7,8 +7,6 @@ mod header;
 mod input;
 mod request;
 mod test;
-#[cfg(test)]
-mod tests;
 
 ghost use Rattle.std.specs.Prelude.{All, IfOk};
 ghost use Rattle.json_walk.specs.Outcome.{Gives};
