@@ -5,3 +5,4 @@ pub mod Apart
 pub mod BuiltHosts
 pub mod LawfulHosts
 pub mod LawfulConfigs
+mod Rows
