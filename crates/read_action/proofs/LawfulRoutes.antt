@@ -16,6 +16,8 @@ use Rattle.json_walk.specs.Fields.{Reading, optional, required, alone}
 use Rattle.json_walk.specs.Leaves.{text, truth, choice, list_of}
 use Rattle.json_walk.specs.Numbers.{number_said, whole, count}
 use Rattle.json_walk.proofs.ReadFacts.{Reads, after, whatever, where_true, of_required, of_optional, of_maybe, of_list, of_short_list}
+use Rattle.cfg_types.specs.declared.changes.EditPair.{EditPair}
+use Rattle.cfg_types.specs.declared.actions.HostChange.{HostChange}
 use Rattle.cfg_types.specs.Lawful.{IsLawfulRule, IsLawfulAddition, IsLawfulPair, IsLawfulShare, AreLawfulShares, IsLawfulTarget, IsLawfulHostChange, IsLawfulForward, IsLawfulPathTo, IsLawfulRedirect, IsLawfulAct, IsLawfulRoute}
 use Rattle.cfg_types.specs.Kinds.{is_target_text, is_value_text}
 use Rattle.cfg_types.specs.Shares.{weight_of}
@@ -28,11 +30,11 @@ use Rattle.read_match.specs.Kinds.{matcher_text, target_text, value_text, some_n
 use Rattle.read_match.specs.Routes.{route_match}
 use Rattle.read_match.proofs.LawfulTexts.{IsMatcher, of_matcher_text, of_target_text, of_value_text, IsSome, of_some_name, IsField, of_field_name, IsEdit, of_edit_name}
 use Rattle.read_match.proofs.LawfulRules.{must_is, of_rule}
-use Rattle.read_action.specs.Edits.{header_value, append_action, header_value_option, listed, edits}
+use Rattle.read_action.specs.Edits.{header_value, way_of_adding, header_value_option, listed, edits}
 use Rattle.read_action.specs.Clusters.{cluster_weight, fit_sum, same_total, weighted_cluster}
-use Rattle.read_action.specs.Forwards.{target, targets, host_change, host_changes, one_target, route_action}
+use Rattle.read_action.specs.Forwards.{target, targets, host_change, host_changes, changes, one_target, route_action}
 use Rattle.read_action.specs.Redirects.{scheme, schemes, origin, path_to, paths_to, response_codes, code_of, response_code, one_of_each, redirect_action, direct_response_action}
-use Rattle.read_action.specs.Routes.{act_form, acts, one_act, route_fields, route, typed_route}
+use Rattle.read_action.specs.Routes.{act_form, acts, one_act, act_and_edits, route_fields, route, typed_route}
 
 -- ---- edits
 
@@ -52,10 +54,7 @@ unfolding header_value_option
 of_addition p d =
     whatever (members_at messages.HeaderValueOption p d) _ IsLawfulAddition (λ _.
     after (required p d name.header header_value) _ IsHeader IsLawfulAddition (of_required p d name.header header_value IsHeader of_header_value) (λ header h.
-    whatever (optional p d name.append truth) _ IsLawfulAddition (λ append.
-    whatever (optional p d name.append_action append_action) _ IsLawfulAddition (λ action.
-    whatever (optional p d name.keep_empty_value truth) _ IsLawfulAddition (λ keep.
-    whatever (alone p d _) _ IsLawfulAddition (λ _. record { name = h.0; value = h.1 }))))))
+    whatever (way_of_adding p d) _ IsLawfulAddition (λ way. record { name = h.0; value = h.1 })))
 
 -- a list of at most 1,000 elements, each of which is so
 abbrev Few : {A : Type 0} → (A → Type 0) → List A → Type 0
@@ -143,14 +142,17 @@ abbrev IsTargetText : List ℕ → Type 0
 IsTargetText t = IsTrue (is_target_text t)
 
 of_forward : Reads IsLawfulForward route_action
-unfolding route_action
+unfolding route_action changes
 of_forward p d =
+    let Q : List ℕ × HostChange → Type 0 = λ c. IsTargetText c.0 × IsLawfulHostChange c.1 in
+    let read : IfOk (changes p d) Q =
+    after (optional p d name.prefix_rewrite target_text) _ (λ o. IsTargetText (unwrap_or o [])) Q (of_optional p d name.prefix_rewrite target_text [] IsTargetText refl of_target_text) (λ rewrite r.
+    after (host_changes p d) _ IsLawfulHostChange Q (of_changes p d) (λ host h. (r, h))) in
     whatever (members_at messages.RouteAction p d) _ IsLawfulForward (λ _.
     after (targets p d) _ (λ o. IfSome o IsLawfulTarget) IsLawfulForward (of_targets p d) (λ found is.
-    after (optional p d name.prefix_rewrite target_text) _ (λ o. IsTargetText (unwrap_or o [])) IsLawfulForward (of_optional p d name.prefix_rewrite target_text [] IsTargetText refl of_target_text) (λ rewrite r.
-    after (host_changes p d) _ IsLawfulHostChange IsLawfulForward (of_changes p d) (λ host h.
+    after (changes p d) _ Q IsLawfulForward read (λ changed c.
     after (one_target found p d) _ IsLawfulTarget IsLawfulForward (one_target_is found is p d) (λ goal g.
-    whatever (alone p d _) _ IsLawfulForward (λ _. record { to = g; prefix_rewrite = r; host = h }))))))
+    whatever (alone p d _) _ IsLawfulForward (λ _. record { to = g; prefix_rewrite = c.0; host = c.1 })))))
 
 -- ---- redirects and direct responses
 
@@ -258,14 +260,20 @@ one_act_is : (found : Option Act) → IfSome found IsLawfulAct → Reads IsLawfu
 unfolding one_act
 one_act_is found is p d = whatever (alone p d _) _ IsLawfulAct (λ _. must_is p found IsLawfulAct is)
 
+of_act_and_edits : Reads (λ r. IsLawfulAct r.0 × IsLawfulPair r.1) act_and_edits
+unfolding act_and_edits
+of_act_and_edits p d =
+    let Q : Act × EditPair → Type 0 = λ r. IsLawfulAct r.0 × IsLawfulPair r.1 in
+    after (acts p d) _ (λ o. IfSome o IsLawfulAct) Q (of_acts p d) (λ found is.
+    after (edits p d) _ IsLawfulPair Q (of_edits p d) (λ changes e.
+    after (one_act found p d) _ IsLawfulAct Q (one_act_is found is p d) (λ does a. (a, e))))
+
 of_fields : Reads IsLawfulRoute route_fields
 unfolding route_fields
 of_fields p d =
     whatever (optional p d name.name text) _ IsLawfulRoute (λ called.
     after (required p d name.route_match route_match) _ IsLawfulRule IsLawfulRoute (of_required p d name.route_match route_match IsLawfulRule of_rule) (λ rule r.
-    after (acts p d) _ (λ o. IfSome o IsLawfulAct) IsLawfulRoute (of_acts p d) (λ found is.
-    after (edits p d) _ IsLawfulPair IsLawfulRoute (of_edits p d) (λ changes e.
-    after (one_act found p d) _ IsLawfulAct IsLawfulRoute (one_act_is found is p d) (λ does a. record { rule = r; act = a; edits = e })))))
+    after (act_and_edits p d) _ (λ x. IsLawfulAct x.0 × IsLawfulPair x.1) IsLawfulRoute (of_act_and_edits p d) (λ rest x. record { rule = r; act = x.0; edits = x.1 })))
 
 pub of_route : Reads IsLawfulRoute route
 unfolding route
@@ -280,4 +288,4 @@ pub route_placed : (p : List ℕ) (d : Data) → IfOk (route p d) (λ r. r.place
 unfolding route route_fields
 route_placed p d =
     whatever (members_at messages.Route p d) _ (λ r. r.place ≡ p) (λ _. whatever (optional p d name.name text) _ (λ r. r.place ≡ p) (λ called. whatever (required p d name.route_match route_match) _ (λ r. r.place ≡ p) (λ rule.
-    whatever (acts p d) _ (λ r. r.place ≡ p) (λ found. whatever (edits p d) _ (λ r. r.place ≡ p) (λ changes. whatever (one_act found p d) _ (λ r. r.place ≡ p) (λ does. refl))))))
+    whatever (act_and_edits p d) _ (λ r. r.place ≡ p) (λ rest. refl))))

@@ -12,7 +12,7 @@ use Rattle.cfg_types.specs.declared.changes.How.TheVariants as how
 use Rattle.cfg_types.specs.declared.actions.PathTo.TheVariants as path
 use Rattle.cfg_types.specs.declared.actions.HostChange.TheVariants as change
 use Rattle.read_match.specs.Kinds.{text_within, matcher_text, target_text, edit_name, header_name, lowered, host}
-use Rattle.read_action.specs.Edits.{header_value, append_actions, append_action as action_read, how_form, header_value_option, listed, edits}
+use Rattle.read_action.specs.Edits.{header_value, append_actions, append_action as action_read, how_form, way_of_adding, header_value_option, listed, edits}
 use Rattle.read_action.specs.Clusters.{fit_sum, same_total}
 use Rattle.read_action.specs.Forwards.{host_change}
 use Rattle.read_action.specs.Redirects.{scheme, schemes, origin, path_to, paths_to, one_of_each, redirect_action, direct_response_action}
@@ -24,12 +24,12 @@ no_lists = refl
 
 -- the value is empty by default, and the header is appended
 added_by_default : header_value_option [] (object (member (codes "header") (object (member (codes "key") (string (codes "X")) no_members)) no_members)) ≡ Ok (record { name = codes "x"; value = []; how = how.Append; keep_empty = false })
-unfolding header_value_option header_value how_form edit_name header_name lowered host text members_at scan_object scan judge allowed known once field optional required alone_after key value raw_value header append append_action keep_empty_value
+unfolding header_value_option way_of_adding header_value how_form edit_name header_name lowered host text members_at scan_object scan judge allowed known once field optional required alone_after key value raw_value header append append_action keep_empty_value
 added_by_default = refl
 
 -- `append: false` is there, so an action is a second one
 append_and_action : header_value_option [] (object (member (codes "append") (boolean false) (member (codes "append_action") (string (codes "ADD_IF_ABSENT")) (member (codes "header") (object (member (codes "key") (string (codes "x")) no_members)) no_members)))) ≡ offence (codes "/append_action") Conflict
-unfolding header_value_option header_value how_form append_actions action_read choice truth edit_name header_name lowered host text members_at scan_object scan judge allowed known once field optional required alone_after key value raw_value header append append_action keep_empty_value
+unfolding header_value_option way_of_adding header_value how_form append_actions action_read choice truth edit_name header_name lowered host text members_at scan_object scan judge allowed known once field optional required alone_after key value raw_value header append append_action keep_empty_value
 append_and_action = refl
 
 -- no weight at all

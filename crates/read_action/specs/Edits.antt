@@ -41,15 +41,21 @@ how_form (Some false) action = how.Overwrite
 how_form None (Some h) = h
 how_form None None = how.Append
 
-unfoldable pub header_value_option : Reading Addition
-header_value_option p d = do
-  _ ← members_at HeaderValueOption p d
-  header ← required p d name.header header_value
+-- how the header is added, append | append_action, and whether an empty value is kept
+unfoldable pub way_of_adding : Reading (How × Bool)
+way_of_adding p d = do
   append ← optional p d name.append truth
   action ← optional p d name.append_action append_action
   keep ← optional p d name.keep_empty_value truth
   _ ← alone p d (name.append ∷ name.append_action ∷ [])
-  Ok (record { name = header.0; value = header.1; how = how_form append action; keep_empty = unwrap_or keep false })
+  Ok (how_form append action, unwrap_or keep false)
+
+unfoldable pub header_value_option : Reading Addition
+header_value_option p d = do
+  _ ← members_at HeaderValueOption p d
+  header ← required p d name.header header_value
+  way ← way_of_adding p d
+  Ok (record { name = header.0; value = header.1; how = way.0; keep_empty = way.1 })
 
 -- the list with this name, of at most 1,000 elements; absent it is empty
 unfoldable pub listed : {A : Type 0} → List ℕ → Reading A → Reading (List A)

@@ -48,12 +48,18 @@ one_target found p d = do
   _ ← alone p d (name.cluster ∷ name.cluster_header ∷ name.weighted_clusters ∷ [])
   must p found
 
+-- what the path and the host are changed to
+unfoldable pub changes : Reading (List ℕ × HostChange)
+changes p d = do
+  rewrite ← optional p d name.prefix_rewrite target_text
+  host ← host_changes p d
+  Ok (unwrap_or rewrite [], host)
+
 unfoldable pub route_action : Reading Forward
 route_action p d = do
   _ ← members_at RouteAction p d
   found ← targets p d
-  rewrite ← optional p d name.prefix_rewrite target_text
-  host ← host_changes p d
+  changed ← changes p d
   goal ← one_target found p d
   _ ← alone p d (name.host_rewrite_literal ∷ name.host_rewrite_header ∷ [])
-  Ok (record { to = goal; prefix_rewrite = unwrap_or rewrite []; host = host })
+  Ok (record { to = goal; prefix_rewrite = changed.0; host = changed.1 })

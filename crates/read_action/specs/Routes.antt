@@ -6,6 +6,7 @@ use Rattle.json_walk.specs.Outcome.{◌>>=◌}
 use Rattle.json_walk.specs.Members.{members_at}
 use Rattle.json_walk.specs.Fields.{Reading, optional, required, alone, must}
 use Rattle.json_walk.specs.Leaves.{text}
+use Rattle.cfg_types.specs.declared.changes.EditPair.{EditPair}
 use Rattle.cfg_types.specs.declared.routes.Route.{Route}
 use Rattle.cfg_types.specs.declared.actions.Act.{Act}
 use Rattle.cfg_types.specs.declared.actions.Act.TheVariants as act
@@ -37,15 +38,21 @@ one_act found p d = do
   _ ← alone p d (name.route ∷ name.redirect ∷ name.direct_response ∷ [])
   must p found
 
+-- what a route does, by the rules on the group, and the header lists
+unfoldable pub act_and_edits : Reading (Act × EditPair)
+act_and_edits p d = do
+  found ← acts p d
+  changes ← edits p d
+  does ← one_act found p d
+  Ok (does, changes)
+
 -- the fields and the rules
 unfoldable pub route_fields : Reading Route
 route_fields p d = do
   called ← optional p d name.name text
   rule ← required p d name.route_match route_match
-  found ← acts p d
-  changes ← edits p d
-  does ← one_act found p d
-  Ok (record { place = p; name = unwrap_or called []; rule = rule; act = does; edits = changes })
+  rest ← act_and_edits p d
+  Ok (record { place = p; name = unwrap_or called []; rule = rule; act = rest.0; edits = rest.1 })
 
 -- a route of a list
 unfoldable pub route : Reading Route

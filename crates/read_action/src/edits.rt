@@ -2,15 +2,16 @@
 ghost use Rattle.std.specs.Prelude.{◌≡◌, [], map, option_map, unwrap_or, if◌then◌else◌, IfOk, None};
 ghost use Rattle.serde_json.specs.View.{view};
 ghost use Rattle.serde_json.specs.Find.{get};
+ghost use Rattle.json_tables.specs.declared.message.Message.TheVariants as messages;
 ghost use Rattle.json_tables.specs.Spellings.{both, with_camel};
 ghost use Rattle.json_walk.specs.Outcome.{Gives};
-ghost use Rattle.json_walk.specs.Members.{is_given as is_given_of};
+ghost use Rattle.json_walk.specs.Members.{is_given as is_given_of, names_of};
 ghost use Rattle.json_walk.specs.Fields.{field as field_of};
-ghost use Rattle.read_action.specs.Edits.{header_value, append_actions, how_of as how_at, append_action, how_form as how_form_of, header_value_option, listed as listed_of, edits, name_of};
+ghost use Rattle.read_action.specs.Edits.{header_value, append_actions, how_of as how_at, append_action, how_form as how_form_of, way_of_adding as way_of_adding_at, header_value_option, listed as listed_of, edits, name_of};
 
 use cfg_types::{Addition, EditPair, Edits, How};
 use json_walk::{
-    Message, ReadFail, Reader, Text, Truth, alone, choice_of, members, optional, read_list,
+    Message, Names, ReadFail, Reader, Text, Truth, alone, choice_of, members, optional, read_list,
     required, under,
 };
 use read_match::{EditName, ValueText};
@@ -100,6 +101,25 @@ fn how_form(append: Option<bool>, action: Option<How>) -> How
     }
 }
 
+/// How the header is added, and whether an empty value is kept.
+#[tactic(auto, unfolding(crate::specs::Edits::way_of_adding))]
+fn way_of_adding(
+    alloc: Global,
+    value: &Value,
+    place: &Text,
+    names: &Names,
+) -> Result<(How, bool), ReadFail>
+    requires { names.now.spelled.items ≡ names_of messages.HeaderValueOption (view value.now) }
+    ensures { Gives (λ w. w) result (way_of_adding_at place.now (view value.now)) }
+{
+    const M: Message = Message::HeaderValueOption;
+    let append = optional(alloc, value, place, names, M, 1, &Truth)?;
+    let action = optional(alloc, value, place, names, M, 2, &AppendAction)?;
+    let keep = optional(alloc, value, place, names, M, 3, &Truth)?;
+    alone(alloc, value, place, names, M, 1, 2)?;
+    Ok((how_form(append, action), keep.unwrap_or(false)))
+}
+
 /// A HeaderValueOption: a header that is added.
 #[derive(Drop)]
 pub struct HeaderOption;
@@ -113,17 +133,13 @@ impl Reader for HeaderOption {
     fn read(&self, alloc: Global, value: &Value, place: &Text) -> Result<Addition, ReadFail> {
         const M: Message = Message::HeaderValueOption;
         let names = members(alloc, value, place, M)?;
-        let header = required(alloc, value, place, &names, M, 0, &HeaderValue)?;
-        let append = optional(alloc, value, place, &names, M, 1, &Truth)?;
-        let action = optional(alloc, value, place, &names, M, 2, &AppendAction)?;
-        let keep = optional(alloc, value, place, &names, M, 3, &Truth)?;
-        alone(alloc, value, place, &names, M, 1, 2)?;
-        let (name, value) = header;
+        let (name, text) = required(alloc, value, place, &names, M, 0, &HeaderValue)?;
+        let (how, keep_empty) = way_of_adding(alloc, value, place, &names)?;
         Ok(Addition {
             name,
-            value,
-            how: how_form(append, action),
-            keep_empty: keep.unwrap_or(false),
+            value: text,
+            how,
+            keep_empty,
         })
     }
 }

@@ -4,7 +4,7 @@ ghost use Rattle.serde_json.specs.View.{view};
 ghost use Rattle.json_tables.specs.declared.message.Message.TheVariants as messages;
 ghost use Rattle.json_walk.specs.Outcome.{Gives};
 ghost use Rattle.json_walk.specs.Members.{names_of};
-ghost use Rattle.read_action.specs.Forwards.{target as target_of, targets as targets_of, host_change as host_change_of, host_changes as host_changes_of, one_target as one_target_of, route_action};
+ghost use Rattle.read_action.specs.Forwards.{target as target_of, targets as targets_of, host_change as host_change_of, host_changes as host_changes_of, changes as changes_of, one_target as one_target_of, route_action};
 
 use crate::clusters::WeightedCluster;
 use crate::edits::or_empty;
@@ -83,6 +83,31 @@ fn host_changes(
     Ok(host_change(literal, header))
 }
 
+/// What the path begins with in the place of the matched prefix, and the change of the host.
+#[tactic(auto, unfolding(crate::specs::Forwards::changes))]
+fn changes(
+    alloc: Global,
+    value: &Value,
+    place: &Text,
+    names: &Names,
+) -> Result<(Text, HostChange), ReadFail>
+    requires { names.now.spelled.items ≡ names_of messages.RouteAction (view value.now) }
+    ensures { Gives (λ c. c) result (changes_of place.now (view value.now)) }
+{
+    let rewrite = optional(
+        alloc,
+        value,
+        place,
+        names,
+        Message::RouteAction,
+        3,
+        &TargetText,
+    )?;
+    let rewrite = or_empty(alloc, rewrite)?;
+    let host = host_changes(alloc, value, place, names)?;
+    Ok((rewrite, host))
+}
+
 /// The rules on the group of targets.
 #[tactic(auto, unfolding(crate::specs::Forwards::one_target))]
 fn one_target(
@@ -113,11 +138,9 @@ impl Reader for RouteAction {
         const M: Message = Message::RouteAction;
         let names = members(alloc, value, place, M)?;
         let found = targets(alloc, value, place, &names)?;
-        let rewrite = optional(alloc, value, place, &names, M, 3, &TargetText)?;
-        let host = host_changes(alloc, value, place, &names)?;
+        let (prefix_rewrite, host) = changes(alloc, value, place, &names)?;
         let to = one_target(alloc, value, place, &names, found)?;
         alone(alloc, value, place, &names, M, 4, 2)?;
-        let prefix_rewrite = or_empty(alloc, rewrite)?;
         Ok(Forward {
             to,
             prefix_rewrite,

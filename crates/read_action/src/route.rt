@@ -4,12 +4,12 @@ ghost use Rattle.serde_json.specs.View.{view};
 ghost use Rattle.json_tables.specs.declared.message.Message.TheVariants as messages;
 ghost use Rattle.json_walk.specs.Outcome.{Gives};
 ghost use Rattle.json_walk.specs.Members.{names_of};
-ghost use Rattle.read_action.specs.Routes.{act_form as act_form_of, acts as acts_of, one_act as one_act_of, route_fields as route_fields_of, route, typed_route, route_as};
+ghost use Rattle.read_action.specs.Routes.{act_form as act_form_of, acts as acts_of, one_act as one_act_of, act_and_edits as act_and_edits_of, route_fields as route_fields_of, route, typed_route, route_as};
 
 use crate::edits::{or_empty, read_edits};
 use crate::forward::RouteAction;
 use crate::redirect::{DirectResponseAction, RedirectAction};
-use cfg_types::{Act, Forward, Redirect, Route};
+use cfg_types::{Act, EditPair, Forward, Redirect, Route};
 use json_walk::{
     AnyText, Message, Names, ReadFail, Reader, Text, alone, members, must, optional, required,
 };
@@ -66,6 +66,23 @@ fn one_act(
     must(alloc, place, found)
 }
 
+/// What a route does, by the rules on the group, and its header edits.
+#[tactic(auto, unfolding(crate::specs::Routes::act_and_edits))]
+fn act_and_edits(
+    alloc: Global,
+    value: &Value,
+    place: &Text,
+    names: &Names,
+) -> Result<(Act, EditPair), ReadFail>
+    requires { names.now.spelled.items ≡ names_of messages.Route (view value.now) }
+    ensures { Gives (λ r. r) result (act_and_edits_of place.now (view value.now)) }
+{
+    let found = acts(alloc, value, place, names)?;
+    let edits = read_edits(alloc, value, place)?;
+    let act = one_act(alloc, value, place, names, found)?;
+    Ok((act, edits))
+}
+
 /// The fields of a route, and then its rules.
 #[tactic(auto, unfolding(crate::specs::Routes::route_fields))]
 fn route_fields(
@@ -78,14 +95,13 @@ fn route_fields(
     ensures { Gives (λ r. r) result (route_fields_of place.now (view value.now)) }
 {
     const M: Message = Message::Route;
+    let own = place.copy(alloc)?;
     let name = optional(alloc, value, place, names, M, 0, &AnyText)?;
-    let rule = required(alloc, value, place, names, M, 1, &RouteMatcher)?;
-    let found = acts(alloc, value, place, names)?;
-    let edits = read_edits(alloc, value, place)?;
-    let act = one_act(alloc, value, place, names, found)?;
     let name = or_empty(alloc, name)?;
+    let rule = required(alloc, value, place, names, M, 1, &RouteMatcher)?;
+    let (act, edits) = act_and_edits(alloc, value, place, names)?;
     Ok(Route {
-        place: place.copy(alloc)?,
+        place: own,
         name,
         rule,
         act,

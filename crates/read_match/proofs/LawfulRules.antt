@@ -23,6 +23,7 @@ use Rattle.cfg_types.specs.declared.rules.Pattern.{Pattern}
 use Rattle.cfg_types.specs.declared.rules.PathRule.{PathRule}
 use Rattle.cfg_types.specs.declared.rules.PathRule.TheVariants as path
 use Rattle.cfg_types.specs.declared.rules.QueryRule.{QueryRule}
+use Rattle.cfg_types.specs.declared.rules.TextForm.{TextForm}
 use Rattle.cfg_types.specs.declared.rules.TextRule.{TextRule}
 use Rattle.read_match.specs.Kinds.{matcher_text, path_text, field_name, query_name}
 use Rattle.read_match.specs.Patterns.{pattern_from, pattern}
@@ -30,9 +31,9 @@ use Rattle.rx_parse.specs.declared.fault.RxFault.TheVariants.{Syntax, NotInSubse
 use Rattle.rx_parse.specs.Results.{Answer, IsAnswer}
 use Rattle.rx_parse.specs.Answer.{answer}
 use Rattle.rx_parse.proofs.ExactAnswers.{answer_is}
-use Rattle.read_match.specs.Texts.{regex_text, regex_matcher, text_form, text_forms, string_matcher}
-use Rattle.read_match.specs.Headers.{int_range, value_form, value_forms, header_form, header_forms, header_matcher}
-use Rattle.read_match.specs.Queries.{asks_presence, query_matcher}
+use Rattle.read_match.specs.Texts.{regex_text, regex_matcher, text_form, text_forms, ignores_case, string_matcher}
+use Rattle.read_match.specs.Headers.{int_range, plain_forms, value_form, value_forms, header_form, header_forms, header_flags, header_matcher}
+use Rattle.read_match.specs.Queries.{presence, query_matcher}
 use Rattle.read_match.specs.Fractions.{denominator, denominators, denominator_of, fractional_percent, runtime_fraction}
 use Rattle.read_match.specs.Routes.{path_form, path_forms, is_cut, separated, one_path, grpc, beside, route_match}
 use Rattle.read_match.proofs.LawfulTexts.{IsMatcher, of_matcher_text, of_path_text, IsField, of_field_name, of_query_name}
@@ -91,32 +92,32 @@ unfolding string_matcher
 of_text_rule p d =
     whatever (members_at messages.StringMatcher p d) _ IsLawfulText (λ _.
     after (text_forms p d) _ (λ o. IfSome o IsLawfulForm) IsLawfulText (of_text_forms p d) (λ found is.
-    whatever (optional p d name.ignore_case truth) _ IsLawfulText (λ fold.
-    whatever (alone p d _) _ IsLawfulText (λ _.
-    after (must p found) _ IsLawfulForm IsLawfulText (must_is p found IsLawfulForm is) (λ form lawful. lawful)))))
+    whatever (ignores_case p d) _ IsLawfulText (λ fold.
+    after (must p found) _ IsLawfulForm IsLawfulText (must_is p found IsLawfulForm is) (λ form lawful. lawful))))
 
 -- ---- headers
 
-value_is : (r : Option TextRule) (e p s c : Option (List ℕ)) (x : Option Pattern) → IfSome r IsLawfulText → IfSome e IsMatcher → IfSome p IsMatcher → IfSome s IsMatcher → IfSome c IsMatcher → IfSome x IsLawfulPattern → IfSome (value_form r e p s c x) IsLawfulText
+of_plain_forms : (p : List ℕ) (d : Data) → IfOk (plain_forms p d) (λ o. IfSome o IsLawfulForm)
+unfolding plain_forms
+of_plain_forms p d =
+    after (optional p d name.exact_match matcher_text) _ (λ o. IfSome o IsMatcher) (λ o. IfSome o IsLawfulForm) (of_maybe p d name.exact_match matcher_text IsMatcher of_matcher_text) (λ e a.
+    after (optional p d name.prefix_match matcher_text) _ (λ o. IfSome o IsMatcher) (λ o. IfSome o IsLawfulForm) (of_maybe p d name.prefix_match matcher_text IsMatcher of_matcher_text) (λ x b.
+    after (optional p d name.suffix_match matcher_text) _ (λ o. IfSome o IsMatcher) (λ o. IfSome o IsLawfulForm) (of_maybe p d name.suffix_match matcher_text IsMatcher of_matcher_text) (λ s f.
+    after (optional p d name.contains_match matcher_text) _ (λ o. IfSome o IsMatcher) (λ o. IfSome o IsLawfulForm) (of_maybe p d name.contains_match matcher_text IsMatcher of_matcher_text) (λ c g.
+    after (optional p d name.safe_regex_match regex_matcher) _ (λ o. IfSome o IsLawfulPattern) (λ o. IfSome o IsLawfulForm) (of_maybe p d name.safe_regex_match regex_matcher IsLawfulPattern of_regex) (λ y h.
+    form_is e x s c y a b f g h)))))
+
+value_is : (r : Option TextRule) (o : Option TextForm) → IfSome r IsLawfulText → IfSome o IsLawfulForm → IfSome (value_form r o) IsLawfulText
 unfolding value_form
-value_is (Some r) e p s c x q a b d f g = q
-value_is None (Some t) p s c x q a b d f g = a
-value_is None None (Some t) s c x q a b d f g = b
-value_is None None None (Some t) c x q a b d f g = d
-value_is None None None None (Some t) x q a b d f g = f
-value_is None None None None None (Some t) q a b d f g = g
-value_is None None None None None None q a b d f g = tt
+value_is (Some r) o q a = q
+value_is None (Some f) q a = a
+value_is None None q a = tt
 
 of_value_forms : (p : List ℕ) (d : Data) → IfOk (value_forms p d) (λ o. IfSome o IsLawfulText)
 unfolding value_forms
 of_value_forms p d =
     after (optional p d name.string_match string_matcher) _ (λ o. IfSome o IsLawfulText) (λ o. IfSome o IsLawfulText) (of_maybe p d name.string_match string_matcher IsLawfulText of_text_rule) (λ r q.
-    after (optional p d name.exact_match matcher_text) _ (λ o. IfSome o IsMatcher) (λ o. IfSome o IsLawfulText) (of_maybe p d name.exact_match matcher_text IsMatcher of_matcher_text) (λ e a.
-    after (optional p d name.prefix_match matcher_text) _ (λ o. IfSome o IsMatcher) (λ o. IfSome o IsLawfulText) (of_maybe p d name.prefix_match matcher_text IsMatcher of_matcher_text) (λ x b.
-    after (optional p d name.suffix_match matcher_text) _ (λ o. IfSome o IsMatcher) (λ o. IfSome o IsLawfulText) (of_maybe p d name.suffix_match matcher_text IsMatcher of_matcher_text) (λ s f.
-    after (optional p d name.contains_match matcher_text) _ (λ o. IfSome o IsMatcher) (λ o. IfSome o IsLawfulText) (of_maybe p d name.contains_match matcher_text IsMatcher of_matcher_text) (λ c g.
-    after (optional p d name.safe_regex_match regex_matcher) _ (λ o. IfSome o IsLawfulPattern) (λ o. IfSome o IsLawfulText) (of_maybe p d name.safe_regex_match regex_matcher IsLawfulPattern of_regex) (λ y h.
-    value_is r e x s c y q a b f g h))))))
+    after (plain_forms p d) _ (λ o. IfSome o IsLawfulForm) (λ o. IfSome o IsLawfulText) (of_plain_forms p d) (λ o a. value_is r o q a))
 
 header_form_is : (v : Option TextRule) (r : Option (ℤ × ℤ)) (b : Option Bool) → IfSome v IsLawfulText → IsLawfulValue (header_form v r b)
 unfolding header_form
@@ -138,9 +139,7 @@ of_header p d =
     whatever (members_at messages.HeaderMatcher p d) _ IsLawfulHeader (λ _.
     after (required p d name.name field_name) _ IsField IsLawfulHeader (of_required p d name.name field_name IsField of_field_name) (λ called n.
     after (header_forms p d) _ IsLawfulValue IsLawfulHeader (of_header_forms p d) (λ form f.
-    whatever (optional p d name.invert_match truth) _ IsLawfulHeader (λ invert.
-    whatever (optional p d name.treat_missing_header_as_empty truth) _ IsLawfulHeader (λ missing.
-    whatever (alone p d _) _ IsLawfulHeader (λ _. record { name = n; form = f }))))))
+    whatever (header_flags p d) _ IsLawfulHeader (λ flags. record { name = n; form = f }))))
 
 -- ---- queries and fractions
 
@@ -150,9 +149,7 @@ of_query p d =
     whatever (members_at messages.QueryParameterMatcher p d) _ IsLawfulQuery (λ _.
     after (required p d name.name query_name) _ (λ t. IsTrue (is_query_name t)) IsLawfulQuery (of_required p d name.name query_name _ of_query_name) (λ called n.
     after (optional p d name.string_match string_matcher) _ (λ o. IfSome o IsLawfulText) IsLawfulQuery (of_maybe p d name.string_match string_matcher IsLawfulText of_text_rule) (λ form f.
-    whatever (optional p d name.present_match truth) _ IsLawfulQuery (λ present.
-    whatever (alone p d _) _ IsLawfulQuery (λ _.
-    whatever (asks_presence p present) _ IsLawfulQuery (λ _. record { name = n; form = f }))))))
+    whatever (presence p d) _ IsLawfulQuery (λ _. record { name = n; form = f }))))
 
 abbrev IsDenominator : ℕ → Type 0
 IsDenominator of = IsTrue (list_any (λ n. of == n) (100 ∷ 10000 ∷ 1000000 ∷ []))

@@ -12,14 +12,14 @@ use Rattle.text_base.proofs.Valid.{valid_without_bad_part}
 use Rattle.json_tables.specs.declared.message.Message.TheVariants.{TestInput}
 use Rattle.json_tables.specs.Names as name
 use Rattle.json_walk.specs.declared.refusal.Kind.TheVariants.{BadText}
-use Rattle.json_walk.specs.Outcome.{Outcome, offence}
+use Rattle.json_walk.specs.declared.refusal.ReadFail.{ReadFail}
+use Rattle.json_walk.specs.Outcome.{Outcome, Fails, offence}
 use Rattle.json_walk.specs.Places.{under}
 use Rattle.json_walk.specs.Members.{members_at}
 use Rattle.json_walk.specs.Fields.{optional}
-use Rattle.json_walk.specs.Leaves.{text, truth}
-use Rattle.json_walk.specs.Numbers.{count}
+use Rattle.json_walk.specs.Leaves.{text}
 use Rattle.test_read.specs.Headers.{headers}
-use Rattle.test_read.specs.Inputs.{asked_line, asked_parts, valid_request, input}
+use Rattle.test_read.specs.Inputs.{asked_line, asked_flags, asked_parts, valid_request, input}
 use Rattle.json_walk.proofs.ReadFacts.{Reads, after, whatever, of_outcome, of_optional}
 use Rattle.test_read.proofs.HeadFacts.{AreHeads, no_heads, of_headers}
 
@@ -29,9 +29,8 @@ of_parts : Reads (λ q. AreHeads q.headers) asked_parts
 unfolding asked_parts
 of_parts p d =
     let Q : Asked → Type 0 = λ q. AreHeads q.headers in
-    whatever (asked_line p d) _ Q (λ line. whatever (optional p d name.internal truth) _ Q (λ internal. whatever (optional p d name.ssl truth) _ Q (λ https.
-    whatever (optional p d name.random_value (count 0 18446744073709551615)) _ Q (λ random. whatever (optional p d name.runtime text) _ Q (λ runtime.
-    after (optional p d name.additional_request_headers headers) _ (λ v. AreHeads (unwrap_or v [])) Q (of_optional p d name.additional_request_headers headers [] AreHeads no_heads of_headers) (λ heads h. h))))))
+    whatever (asked_line p d) _ Q (λ line. whatever (asked_flags p d) _ Q (λ flags. whatever (optional p d name.runtime text) _ Q (λ runtime.
+    after (optional p d name.additional_request_headers headers) _ (λ v. AreHeads (unwrap_or v [])) Q (of_optional p d name.additional_request_headers headers [] AreHeads no_heads of_headers) (λ heads h. h))))
 
 pub heads_of_parts : (p : List ℕ) (d : Data) (q : Asked) → asked_parts p d ≡ Ok q → list_all is_header q.headers ≡ true
 heads_of_parts p d q e = (of_outcome (asked_parts p d) q (λ r. AreHeads r.headers) e (of_parts p d)).valid
@@ -69,6 +68,26 @@ refused_for p q e heads w = elim w [
 
 pub no_header_refused : (q : Asked) (e : BadRequest) (i : ℕ) → list_all is_header q.headers ≡ true → (e ≡ bad.OutOfMemory) ⊎ (first_bad_part q ≡ Some e) → e ≡ bad.Header i → ⊥
 no_header_refused q e i heads w is = subst (IsRefusedFor [] (valid_request [] q)) is (refused_for [] q e heads w)
+
+fails_as : (fail : ReadFail) (o r : Outcome Asked) → o ≡ r → Fails fail r → Fails fail o
+fails_as fail o r e h = subst (Fails fail) (sym e) h
+
+-- the offence of each part is that at its member
+pub of_authority : (p : List ℕ) (q : Asked) (e : BadRequest) (fail : ReadFail) → list_all is_header q.headers ≡ true → (e ≡ bad.OutOfMemory) ⊎ (first_bad_part q ≡ Some e) → e ≡ bad.Authority →
+    Fails fail (offence {A = Asked} (under p name.authority) BadText) → Fails fail (valid_request p q)
+of_authority p q e fail heads w is h = fails_as fail (valid_request p q) _ (subst (IsRefusedFor p (valid_request p q)) is (refused_for p q e heads w)) h
+
+pub of_target : (p : List ℕ) (q : Asked) (e : BadRequest) (fail : ReadFail) → list_all is_header q.headers ≡ true → (e ≡ bad.OutOfMemory) ⊎ (first_bad_part q ≡ Some e) → e ≡ bad.Target →
+    Fails fail (offence {A = Asked} (under p name.path) BadText) → Fails fail (valid_request p q)
+of_target p q e fail heads w is h = fails_as fail (valid_request p q) _ (subst (IsRefusedFor p (valid_request p q)) is (refused_for p q e heads w)) h
+
+pub of_method : (p : List ℕ) (q : Asked) (e : BadRequest) (fail : ReadFail) → list_all is_header q.headers ≡ true → (e ≡ bad.OutOfMemory) ⊎ (first_bad_part q ≡ Some e) → e ≡ bad.Method →
+    Fails fail (offence {A = Asked} (under p name.method) BadText) → Fails fail (valid_request p q)
+of_method p q e fail heads w is h = fails_as fail (valid_request p q) _ (subst (IsRefusedFor p (valid_request p q)) is (refused_for p q e heads w)) h
+
+pub of_runtime : (p : List ℕ) (q : Asked) (e : BadRequest) (fail : ReadFail) → list_all is_header q.headers ≡ true → (e ≡ bad.OutOfMemory) ⊎ (first_bad_part q ≡ Some e) → e ≡ bad.Runtime →
+    Fails fail (offence {A = Asked} (under p name.runtime) BadText) → Fails fail (valid_request p q)
+of_runtime p q e fail heads w is h = fails_as fail (valid_request p q) _ (subst (IsRefusedFor p (valid_request p q)) is (refused_for p q e heads w)) h
 
 -- a request whose headers keep the rules is valid where it is read
 abbrev IsAsked : Asked → Type 0

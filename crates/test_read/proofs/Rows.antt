@@ -12,7 +12,7 @@ use Rattle.json_walk.specs.Leaves.{text, truth, list, list_of, items}
 use Rattle.json_walk.specs.Numbers.{count, whole, number_said}
 use Rattle.read_match.specs.Kinds.{header_name, lowered}
 use Rattle.test_read.specs.Headers.{header_key, header_value, header, headers}
-use Rattle.test_read.specs.Inputs.{default_method, asked_line, asked_parts, valid_request, input}
+use Rattle.test_read.specs.Inputs.{default_method, asked_line, asked_flags, asked_parts, valid_request, input}
 use Rattle.test_read.specs.Validation.{expects_nothing, expecting, validate}
 use Rattle.test_read.specs.Tests.{test, test_file}
 
@@ -37,7 +37,7 @@ unfolding header_value text
 space_at_the_end_of_a_value = refl
 
 plain_by_default : input [] (object (member (codes "authority") (string (codes "x.com")) (member (codes "path") (string (codes "/")) no_members))) ≡ Ok (plain_request (codes "x.com") (codes "/"), record { list = [] })
-unfolding input asked_line asked_parts default_method valid_request text members_at scan_object scan judge allowed known once field optional required authority path method internal ssl random_value runtime additional_request_headers additional_response_headers
+unfolding input asked_line asked_flags asked_parts default_method valid_request text members_at scan_object scan judge allowed known once field optional required authority path method internal ssl random_value runtime additional_request_headers additional_response_headers
 plain_by_default = refl
 
 -- each part under the name of its field
@@ -58,17 +58,17 @@ every_part : input [] (object (member (codes "additional_request_headers") (arra
       },
       record { list = (codes "b", []) ∷ [] },
     )
-unfolding input asked_line asked_parts default_method valid_request header header_key headers header_name lowered text truth list list_of items count whole number_said members_at scan_object scan judge allowed known once field optional required authority path method internal ssl random_value runtime additional_request_headers additional_response_headers key value
+unfolding input asked_line asked_flags asked_parts default_method valid_request header header_key headers header_name lowered text truth list list_of items count whole number_said members_at scan_object scan judge allowed known once field optional required authority path method internal ssl random_value runtime additional_request_headers additional_response_headers key value
 every_part = refl
 
 -- `ssl` makes it https
 https_by_ssl : asked_parts [] (object (member (codes "authority") (string (codes "x.com")) (member (codes "path") (string (codes "/")) (member (codes "ssl") (boolean true) no_members))))
     ≡ Ok (record { authority = codes "x.com"; target = codes "/"; method = codes "GET"; https = true; internal = false; headers = []; runtime = []; random = 0 })
-unfolding asked_line asked_parts default_method text truth field optional required authority path method internal ssl random_value runtime additional_request_headers
+unfolding asked_line asked_flags asked_parts default_method text truth field optional required authority path method internal ssl random_value runtime additional_request_headers
 https_by_ssl = refl
 
 space_in_the_method : input (codes "/tests/0/input") (object (member (codes "authority") (string (codes "x.com")) (member (codes "method") (string (codes "G T")) (member (codes "path") (string (codes "/")) no_members)))) ≡ offence (codes "/tests/0/input/method") BadText
-unfolding input asked_line asked_parts default_method valid_request text members_at scan_object scan judge allowed known once field optional required authority path method internal ssl random_value runtime additional_request_headers additional_response_headers
+unfolding input asked_line asked_flags asked_parts default_method valid_request text members_at scan_object scan judge allowed known once field optional required authority path method internal ssl random_value runtime additional_request_headers additional_response_headers
 space_in_the_method = refl
 
 authority_before_path : valid_request (codes "/i") (plain_request [] []) ≡ offence (codes "/i/authority") BadText
@@ -129,5 +129,5 @@ one_test : test [] (object (member (codes "input") (object (member (codes "autho
         response_header_matches = [];
       };
     })
-unfolding test input asked_line asked_parts default_method valid_request validate expecting expects_nothing text members_at scan_object scan judge allowed known once field optional required authority path method internal ssl random_value runtime additional_request_headers additional_response_headers cluster_name virtual_cluster_name virtual_host_name host_rewrite path_rewrite path_redirect request_header_matches response_header_matches test_name input_name validate_name
+unfolding test input asked_line asked_flags asked_parts default_method valid_request validate expecting expects_nothing text members_at scan_object scan judge allowed known once field optional required authority path method internal ssl random_value runtime additional_request_headers additional_response_headers cluster_name virtual_cluster_name virtual_host_name host_rewrite path_rewrite path_redirect request_header_matches response_header_matches test_name input_name validate_name
 one_test = refl

@@ -1,5 +1,5 @@
 -- The input of a test, as its row of the table: the fields in order, then the rules of requests.
-use Rattle.std.specs.Prelude.{ℕ, List, [], false, not, if◌then◌else◌, codes, unwrap_or, Ok}
+use Rattle.std.specs.Prelude.{ℕ, List, [], Bool, false, not, if◌then◌else◌, codes, unwrap_or, Ok}
 use Rattle.text_base.specs.Asked.{Asked}
 use Rattle.text_base.specs.Requests.{is_authority, is_target, is_method, is_runtime}
 use Rattle.text_base.specs.declared.request.Heads.{Heads}
@@ -26,24 +26,30 @@ asked_line p d = do
   method ← optional p d name.method text
   Ok (authority, target, unwrap_or method default_method)
 
+-- internal, ssl and random_value
+unfoldable pub asked_flags : Reading (Bool × Bool × ℕ)
+asked_flags p d = do
+  internal ← optional p d name.internal truth
+  https ← optional p d name.ssl truth
+  random ← optional p d name.random_value (count 0 18446744073709551615)
+  Ok (unwrap_or internal false, unwrap_or https false, unwrap_or random 0)
+
 -- the parts of the request, which may break its rules
 unfoldable pub asked_parts : Reading Asked
 asked_parts p d = do
   line ← asked_line p d
-  internal ← optional p d name.internal truth
-  https ← optional p d name.ssl truth
-  random ← optional p d name.random_value (count 0 18446744073709551615)
+  flags ← asked_flags p d
   runtime ← optional p d name.runtime text
   heads ← optional p d name.additional_request_headers headers
   Ok (record {
     authority = line.0;
     target = line.1;
     method = line.2;
-    https = unwrap_or https false;
-    internal = unwrap_or internal false;
+    https = flags.1;
+    internal = flags.0;
     headers = unwrap_or heads [];
     runtime = unwrap_or runtime [];
-    random = unwrap_or random 0;
+    random = flags.2;
   })
 
 -- the first of authority, path, method and runtime that breaks the rules of requests is an offence at its member

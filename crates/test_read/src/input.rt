@@ -5,7 +5,7 @@ ghost use Rattle.json_tables.specs.declared.message.Message.TheVariants as messa
 ghost use Rattle.json_walk.specs.Outcome.{Gives};
 ghost use Rattle.json_walk.specs.Members.{names_of};
 ghost use Rattle.json_walk.specs.Numbers.{count};
-ghost use Rattle.test_read.specs.Inputs.{default_method, asked_line as asked_line_of, asked_parts as asked_parts_of, input};
+ghost use Rattle.test_read.specs.Inputs.{default_method, asked_line as asked_line_of, asked_flags as asked_flags_of, asked_parts as asked_parts_of, input};
 
 use crate::header::{HeaderList, TextBytes, or_empty};
 use crate::request::valid_request;
@@ -61,6 +61,28 @@ fn asked_line(
     Ok((authority, target, method))
 }
 
+/// Whether the request is internal, whether it comes over https, and its random value.
+#[tactic(auto, unfolding(crate::specs::Inputs::asked_flags))]
+fn asked_flags(
+    alloc: Global,
+    value: &Value,
+    place: &Text,
+    names: &Names,
+) -> Result<(bool, bool, u64), ReadFail>
+    requires { names.now.spelled.items ≡ names_of messages.TestInput (view value.now) }
+    ensures { Gives (λ f. f) result (asked_flags_of place.now (view value.now)) }
+{
+    const M: Message = Message::TestInput;
+    let internal = optional(alloc, value, place, names, M, 3, &Truth)?;
+    let https = optional(alloc, value, place, names, M, 4, &Truth)?;
+    let random = optional(alloc, value, place, names, M, 5, &RandomValue)?;
+    Ok((
+        internal.unwrap_or(false),
+        https.unwrap_or(false),
+        random.unwrap_or(0),
+    ))
+}
+
 /// The parts of the request, of which only the headers are known to keep the rules.
 #[tactic(auto, unfolding(crate::specs::Inputs::asked_parts))]
 fn asked_parts(alloc: Global, value: &Value, place: &Text, names: &Names) -> Result<Parts, ReadFail>
@@ -69,20 +91,18 @@ fn asked_parts(alloc: Global, value: &Value, place: &Text, names: &Names) -> Res
 {
     const M: Message = Message::TestInput;
     let (authority, target, method) = asked_line(alloc, value, place, names)?;
-    let internal = optional(alloc, value, place, names, M, 3, &Truth)?;
-    let https = optional(alloc, value, place, names, M, 4, &Truth)?;
-    let random = optional(alloc, value, place, names, M, 5, &RandomValue)?;
+    let (internal, https, random) = asked_flags(alloc, value, place, names)?;
     let runtime = optional(alloc, value, place, names, M, 6, &TextBytes)?;
     let headers = optional(alloc, value, place, names, M, 7, &HeaderList)?;
     Ok(Parts {
         authority,
         target,
         method,
-        https: https.unwrap_or(false),
-        internal: internal.unwrap_or(false),
+        https,
+        internal,
         headers: or_empty(alloc, headers),
         runtime: or_empty(alloc, runtime),
-        random: random.unwrap_or(0),
+        random,
     })
 }
 
