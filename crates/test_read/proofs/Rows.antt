@@ -14,7 +14,7 @@ use Rattle.read_match.specs.Kinds.{header_name, lowered}
 use Rattle.test_read.specs.Headers.{header_key, header_value, header, headers}
 use Rattle.test_read.specs.Inputs.{default_method, asked_line, asked_flags, asked_parts, valid_request, input}
 use Rattle.test_read.specs.Validation.{expects_nothing, expecting, validate}
-use Rattle.test_read.specs.Tests.{test, test_file}
+use Rattle.test_read.specs.Tests.{test_entry, test_file}
 
 part_is_no_header : header (codes "/h/0") (object (member (codes "key") (string (codes ":path")) no_members)) ≡ offence (codes "/h/0/key") BadText
 unfolding header header_key header_name lowered text members_at scan_object scan judge allowed known once field required key value
@@ -104,15 +104,15 @@ unfolding test_file members_at scan_object scan field required tests
 no_tests = refl
 
 -- the fields of a test go in the order of the table
-name_before_input : test (codes "/t") (object (member (codes "input") (boolean true) (member (codes "validate") (boolean true) no_members))) ≡ offence (codes "/t/test_name") Missing
-unfolding test members_at scan_object scan judge allowed known once field required test_name input_name validate_name
+name_before_input : test_entry (codes "/t") (object (member (codes "input") (boolean true) (member (codes "validate") (boolean true) no_members))) ≡ offence (codes "/t/test_name") Missing
+unfolding test_entry members_at scan_object scan judge allowed known once field required test_name input_name validate_name
 name_before_input = refl
 
-input_before_expectation : test (codes "/t") (object (member (codes "input") (boolean true) (member (codes "test_name") (string (codes "n")) (member (codes "validate") (boolean true) no_members)))) ≡ offence (codes "/t/input") WrongKind
-unfolding test input text members_at scan_object scan judge allowed known once field required test_name input_name validate_name
+input_before_expectation : test_entry (codes "/t") (object (member (codes "input") (boolean true) (member (codes "test_name") (string (codes "n")) (member (codes "validate") (boolean true) no_members)))) ≡ offence (codes "/t/input") WrongKind
+unfolding test_entry input text members_at scan_object scan judge allowed known once field required test_name input_name validate_name
 input_before_expectation = refl
 
-one_test : test [] (object (member (codes "input") (object (member (codes "authority") (string (codes "x.com")) (member (codes "path") (string (codes "/")) no_members)))
+one_test : test_entry [] (object (member (codes "input") (object (member (codes "authority") (string (codes "x.com")) (member (codes "path") (string (codes "/")) no_members)))
     (member (codes "test_name") (string (codes "n")) (member (codes "validate") (object (member (codes "cluster_name") (string (codes "c")) no_members)) no_members))))
     ≡ Ok (record {
       name = codes "n";
@@ -129,5 +129,5 @@ one_test : test [] (object (member (codes "input") (object (member (codes "autho
         response_header_matches = [];
       };
     })
-unfolding test input asked_line asked_flags asked_parts default_method valid_request validate expecting expects_nothing text members_at scan_object scan judge allowed known once field optional required authority path method internal ssl random_value runtime additional_request_headers additional_response_headers cluster_name virtual_cluster_name virtual_host_name host_rewrite path_rewrite path_redirect request_header_matches response_header_matches test_name input_name validate_name
+unfolding test_entry input asked_line asked_flags asked_parts default_method valid_request validate expecting expects_nothing text members_at scan_object scan judge allowed known once field optional required authority path method internal ssl random_value runtime additional_request_headers additional_response_headers cluster_name virtual_cluster_name virtual_host_name host_rewrite path_rewrite path_redirect request_header_matches response_header_matches test_name input_name validate_name
 one_test = refl

@@ -16,7 +16,7 @@ use Rattle.test_read.specs.declared.test.Expect.{Expect}
 use Rattle.test_read.specs.declared.test.Test.{Test}
 use Rattle.test_read.specs.Inputs.{input}
 use Rattle.test_read.specs.Validation.{expects_nothing, expecting, validate}
-use Rattle.test_read.specs.Tests.{test, test_file}
+use Rattle.test_read.specs.Tests.{test_entry, test_file}
 use Rattle.test_read.specs.Lawful.{IsLawfulTest}
 use Rattle.json_walk.proofs.ReadFacts.{Reads, after, whatever, where_false, of_outcome, of_required, of_list}
 use Rattle.test_read.proofs.InputFacts.{IsInput, of_input}
@@ -36,8 +36,8 @@ of_validate p d =
     whatever (members_at messages.Validate p d) _ HasLawfulRules (λ _. whatever (optional p d name.cluster_name text) _ HasLawfulRules (λ cluster. whatever (optional p d name.virtual_host_name text) _ HasLawfulRules (λ host. whatever (optional p d name.host_rewrite text) _ HasLawfulRules (λ authority. whatever (optional p d name.path_rewrite text) _ HasLawfulRules (λ target. whatever (optional p d name.path_redirect text) _ HasLawfulRules (λ url.
     of_expecting p _ (record { of_request = All-nil IsLawfulHeader; of_response = All-nil IsLawfulHeader })))))))
 
-of_test : Reads IsLawfulTest test
-unfolding test
+of_test : Reads IsLawfulTest test_entry
+unfolding test_entry
 of_test p d =
     whatever (members_at messages.Test p d) _ IsLawfulTest (λ _. whatever (required p d name.test_name text) _ IsLawfulTest (λ called.
     after (required p d name.input input) _ IsInput IsLawfulTest (of_required p d name.input input IsInput of_input) (λ asked i.
@@ -54,7 +54,7 @@ of_file : Reads (All IsLawfulTest) test_file
 unfolding test_file
 of_file p d =
     whatever (members_at messages.TestFile p d) _ (All IsLawfulTest) (λ _.
-    of_required p d name.tests (list_of None test) (All IsLawfulTest) (of_list None test IsLawfulTest of_test))
+    of_required p d name.tests (list_of None test_entry) (All IsLawfulTest) (of_list None test_entry IsLawfulTest of_test))
 
 pub of_file_given : (r : Result (List Test) ReadFail) (p : List ℕ) (d : Data) → Gives (λ ts. ts) r (test_file p d) → IfOk r (All IsLawfulTest)
 of_file_given (Ok ts) p d e = of_outcome (test_file p d) ts (All IsLawfulTest) e (of_file p d)

@@ -11,8 +11,8 @@ use Rattle.test_read.specs.declared.test.Test.{Test}
 use Rattle.test_read.specs.Inputs.{input}
 use Rattle.test_read.specs.Validation.{validate}
 
-unfoldable pub test : Reading Test
-test p d = do
+unfoldable pub test_entry : Reading Test
+test_entry p d = do
   _ ← members_at messages.Test p d
   called ← required p d name.test_name text
   asked ← required p d name.input input
@@ -22,7 +22,7 @@ test p d = do
 unfoldable pub test_file : Reading (List Test)
 test_file p d = do
   _ ← members_at messages.TestFile p d
-  required p d name.tests (list_of None test)
+  required p d name.tests (list_of None test_entry)
 
 -- the tests that the bytes stand for, or their first offence
 unfoldable pub tests_of : List ℕ → Outcome (List Test)

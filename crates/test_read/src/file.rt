@@ -1,7 +1,7 @@
 // A test file, and each of its tests.
 ghost use Rattle.serde_json.specs.View.{view};
 ghost use Rattle.json_walk.specs.Outcome.{Gives};
-ghost use Rattle.test_read.specs.Tests.{test, test_file as test_file_of};
+ghost use Rattle.test_read.specs.Tests.{test_entry, test_file as test_file_of};
 
 use crate::expectation::Validate;
 use crate::input::Input;
@@ -18,9 +18,9 @@ struct TestReader;
 impl Reader for TestReader {
     type Out = Test;
 
-    ghost reads = { λ _. test };
+    ghost reads = { λ _. test_entry };
 
-    #[tactic(auto, unfolding(crate::specs::Tests::test))]
+    #[tactic(auto, unfolding(crate::specs::Tests::test_entry))]
     fn read(&self, alloc: Global, value: &Value, place: &Text) -> Result<Test, ReadFail> {
         const M: Message = Message::Test;
         let names = members(alloc, value, place, M)?;
