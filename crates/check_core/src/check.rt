@@ -2,49 +2,48 @@
 ghost use Rattle.std.specs.Prelude.{◌≡◌, ◌≤◌, List, ℕ, All, IsTrue, IfOk};
 ghost use Rattle.cfg_types.specs.Built.{is_built};
 ghost use Rattle.cfg_types.specs.Lawful.{IsLawful};
+ghost use Rattle.outside.specs.Written.{Wrote};
 ghost use Rattle.route_scan.specs.Tests.{AreTestsOf, most_room};
-ghost use Rattle.run_terms.specs.Outside.{outside, IsKept};
-ghost use Rattle.run_terms.specs.Run.{IsDue, AreThere, Begins};
-ghost use Rattle.run_terms.specs.Check.{Checks, verdict};
-ghost use Rattle.run_terms.specs.Words.{check};
 ghost use Rattle.test_read.specs.Lawful.{IsLawfulTest};
-ghost use Rattle.test_run.specs.Verdicts.{failed};
 ghost use Rattle.test_run.specs.Lines.{check_text};
-ghost use Rattle.check_core.specs.Steps.{Ended, Finished};
+ghost use Rattle.test_run.specs.Verdicts.{failed};
+ghost use Rattle.check_core.specs.Outside.{outside, IsKept};
+ghost use Rattle.check_core.specs.Run.{IsDue, AreThere};
+ghost use Rattle.check_core.specs.Check.{Checks, verdict};
+ghost use Rattle.check_core.specs.Words.{check as check_command};
+ghost use Rattle.check_core.specs.Steps.{EndedEither};
 
-use crate::lines::write_verdicts;
-use crate::steps::{config_step, tests_step, write_status};
+use crate::input::{ConfigFile, TestFile, read_input};
+use crate::status::Status;
+use crate::verdicts::write_verdicts;
+use crate::words::CheckWords;
 use cfg_types::Config;
-use outside::{Files, Sink};
+use outside::{Files, Sink, WriteFail};
 use route_match::{RouteTest, Scratch};
 use route_scan::{Scan, room_of, rule_tests};
-use run_terms::Status;
 use std::alloc::Global;
 use test_read::Test;
 use text_base::OutOfMemory;
 
-/// Runs the tests of a test file over a configuration.
-pub fn run_check<F: Files, K: Sink>(
+/// Runs the tests of a test file over a configuration. Either result is the status of the run.
+pub fn check<F: Files, K: Sink>(
     alloc: Global,
-    config: &str,
-    tests: &str,
+    words: &CheckWords<'_>,
     files: &mut F,
     out: &mut K,
-) -> Status
-    requires { (name : List ℕ) → IsDue (check config.now tests.now) (F.told files.old) name → IsTrue (F.admits files.old name) }
-    ensures ended { Ended (AreThere (check config.now tests.now)) (Checks config.now tests.now) (Begins (check config.now tests.now)) (outside (F.told files.old) (K.written out.old) (F.faults files.old) (K.faults out.old)) (outside (F.told files.new) (K.written out.new) (F.faults files.new) (K.faults out.new)) result }
-    ensures kept { IsKept (outside (F.told files.old) (K.written out.old) (F.faults files.old) (K.faults out.old)) (outside (F.told files.new) (K.written out.new) (F.faults files.new) (K.faults out.new)) }
-    ensures names { (name : List ℕ) → F.admits files.new name ≡ F.admits files.old name }
+) -> Result<Status, Status>
+    requires { let command = check_command words.now.config.now words.now.tests.now in
+        (name : List ℕ) → IsDue command (F.state files.old).told name → IsTrue ((F.state files.old).admits name) }
+    ensures ended { let command = check_command words.now.config.now words.now.tests.now in
+        EndedEither (AreThere command) (Checks words.now.config.now words.now.tests.now)
+        (outside (F.state files.old) (K.state out.old)) (outside (F.state files.new) (K.state out.new)) result }
+    ensures kept { IsKept (outside (F.state files.old) (K.state out.old)) (outside (F.state files.new) (K.state out.new)) }
+    ensures names { (name : List ℕ) → (F.state files.new).admits name ≡ (F.state files.old).admits name }
 {
-    let table = match config_step(alloc, config, files, out) {
-        Ok(table) => table,
-        Err(status) => return status,
-    };
-    let tests = match tests_step(alloc, tests, files, out) {
-        Ok(tests) => tests,
-        Err(status) => return status,
-    };
-    judge(alloc, &table, tests.as_slice(), out)
+    let config = read_input(alloc, &ConfigFile, words.config, files, out)?;
+    let tests = read_input(alloc, &TestFile, words.tests, files, out)?;
+    let status = judge(alloc, &config, tests.as_slice(), out)?;
+    Ok(status)
 }
 
 /// What routes the requests of tests: a scan of the configuration, the tests of its routes' rules, and room for these.
@@ -55,7 +54,7 @@ struct Routing<'a> {
     scratch: Scratch,
 }
 
-fn ready(alloc: Global, config: &Config) -> Result<Routing<'_>, OutOfMemory>
+fn routing_of(alloc: Global, config: &Config) -> Result<Routing<'_>, OutOfMemory>
     requires { IsTrue (is_built config.now) }
     ensures same { IfOk result (λ r. r.scan ≡ config.now) }
     ensures rules { IfOk result (λ r. AreTestsOf config.now r.rules.items) }
@@ -71,30 +70,28 @@ fn ready(alloc: Global, config: &Config) -> Result<Routing<'_>, OutOfMemory>
     })
 }
 
-/// Writes the verdicts.
-fn judge<K: Sink>(alloc: Global, config: &Config, tests: &[Test], out: &mut K) -> Status
+/// Writes the verdicts. The status is that of so many failed tests.
+fn judge<K: Sink>(
+    alloc: Global,
+    config: &Config,
+    tests: &[Test],
+    out: &mut K,
+) -> Result<Status, WriteFail>
     requires built { IsTrue (is_built config.now) }
     requires lawful { IsLawful config.now }
     requires asked { All IsLawfulTest tests.now }
-    ensures text { Finished (check_text config.now tests.now) (verdict (failed config.now tests.now)) (K.written out.old) (K.written out.new) (K.faults out.old) (K.faults out.new) result }
-    ensures later { K.faults out.old ≤ K.faults out.new }
+    ensures text { Wrote (K.state out.old) (K.state out.new) (check_text config.now tests.now) result }
+    ensures status { IfOk result (λ s. s ≡ verdict (failed config.now tests.now)) }
 {
     let Routing {
         scan,
         rules,
         mut scratch,
-    } = match ready(alloc, config) {
-        Ok(routing) => routing,
-        Err(_) => return Status::NoMemory,
-    };
-    match write_verdicts(alloc, config, &scan, &rules, &mut scratch, tests, out) {
-        Ok(failed) => {
-            if failed == 0 {
-                Status::Done
-            } else {
-                Status::TestsFailed
-            }
-        }
-        Err(fail) => write_status(fail),
+    } = routing_of(alloc, config)?;
+    let failed = write_verdicts(alloc, config, &scan, &rules, &mut scratch, tests, out)?;
+    if failed == 0 {
+        Ok(Status::Done)
+    } else {
+        Ok(Status::TestsFailed)
     }
 }

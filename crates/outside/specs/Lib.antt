@@ -1,4 +1,5 @@
 pub mod Faults
 pub mod Contents
+pub mod States
 pub mod Written
 pub mod Memory

@@ -70,11 +70,7 @@ fn read_part(bytes: &[u8], from: u64, buf: &mut [u8]) -> usize
 impl Files for MemoryFiles {
     ghost use Rattle.outside.specs.Memory.{fails, after_read};
 
-    ghost told = { λ files. Some (contents_of files.map.items) };
-
-    ghost admits = { λ files name. true };
-
-    ghost faults = { λ files. files.faults };
+    ghost state = { λ files. record { told = Some (contents_of files.map.items); admits = λ name. true; faults = files.faults } };
 
     fn read(&mut self, name: &str, from: u64, buf: &mut [u8]) -> Result<usize, Failed>
         requires { 0 < length buf.old }
@@ -102,11 +98,7 @@ impl Files for MemoryFiles {
 }
 
 impl Files for SureFiles {
-    ghost told = { λ files. Some (contents_of files.map.items) };
-
-    ghost admits = { λ files name. is_some (find name (contents_of files.map.items)) };
-
-    ghost faults = { λ files. 0 };
+    ghost state = { λ files. let held = contents_of files.map.items in record { told = Some held; admits = λ name. is_some (find name held); faults = 0 } };
 
     fn read(&mut self, name: &str, from: u64, buf: &mut [u8]) -> Result<usize, Failed>
         requires admitted { IsTrue (is_some (find name.now (contents_of self.old.map.items))) }
@@ -127,9 +119,7 @@ impl Files for SureFiles {
 impl Sink for MemorySink {
     ghost use Rattle.outside.specs.Memory.{is_listed, after_write};
 
-    ghost written = { λ sink. Some sink.bytes.items };
-
-    ghost faults = { λ sink. sink.faults };
+    ghost state = { λ sink. record { written = Some sink.bytes.items; faults = sink.faults } };
 
     fn write(&mut self, piece: &[u8]) -> Result<usize, WriteFail>
         requires { 0 < length piece.now }
@@ -148,17 +138,13 @@ impl Sink for MemorySink {
             return Err(WriteFail::Failed);
         }
         let count = piece.len().min(self.most.max(1));
-        match self.bytes.extend_from_slice(&piece[..count]) {
-            Ok(()) => Ok(count),
-            Err(_) => Err(WriteFail::OutOfMemory),
-        }
+        self.bytes.extend_from_slice(&piece[..count])?;
+        Ok(count)
     }
 }
 
 impl Sink for SureSink {
-    ghost written = { λ sink. Some sink.bytes.items };
-
-    ghost faults = { λ sink. 0 };
+    ghost state = { λ sink. record { written = Some sink.bytes.items; faults = 0 } };
 
     fn write(&mut self, piece: &[u8]) -> Result<usize, WriteFail>
         requires { 0 < length piece.now }
@@ -169,9 +155,7 @@ impl Sink for SureSink {
         ensures whole { IfOk result (λ n. n ≡ length piece.now) }
         ensures sure { result ≢ Err WriteFail.Failed }
     {
-        match self.bytes.extend_from_slice(piece) {
-            Ok(()) => Ok(piece.len()),
-            Err(_) => Err(WriteFail::OutOfMemory),
-        }
+        self.bytes.extend_from_slice(piece)?;
+        Ok(piece.len())
     }
 }

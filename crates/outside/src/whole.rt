@@ -36,14 +36,14 @@ pub fn read_whole<F: Files>(
     name: &str,
     limit: usize,
 ) -> Result<Vec<u8>, FileFail>
-    requires admitted { IsTrue (F.admits files.old name.now) }
+    requires admitted { IsTrue ((F.state files.old).admits name.now) }
     requires limit { limit < 2 ^ 62 }
-    ensures whole { IfOk result (λ bytes. Holds (F.told files.old) name.now bytes.items) }
+    ensures whole { IfOk result (λ bytes. Holds (F.state files.old).told name.now bytes.items) }
     ensures within { IfOk result (λ bytes. vec_len bytes ≤ limit) }
-    ensures long { IsErrOf result FileFail.TooLong → IsLonger (F.told files.old) name.now limit }
-    ensures contents { F.told files.new ≡ F.told files.old }
-    ensures names { (other : List ℕ) → F.admits files.new other ≡ F.admits files.old other }
-    ensures cause { HasReadCause (F.faults files.old) (F.faults files.new) result }
+    ensures long { IsErrOf result FileFail.TooLong → IsLonger (F.state files.old).told name.now limit }
+    ensures contents { (F.state files.new).told ≡ (F.state files.old).told }
+    ensures names { (other : List ℕ) → (F.state files.new).admits other ≡ (F.state files.old).admits other }
+    ensures cause { HasReadCause (F.state files.old).faults (F.state files.new).faults result }
 {
     let mut buf = vec![in alloc; 0u8; PIECE]?;
     read_pieces(alloc, files, name, limit, buf.as_mut_slice())
@@ -57,15 +57,15 @@ fn read_pieces<F: Files>(
     limit: usize,
     buf: &mut [u8],
 ) -> Result<Vec<u8>, FileFail>
-    requires admitted { IsTrue (F.admits files.old name.now) }
+    requires admitted { IsTrue ((F.state files.old).admits name.now) }
     requires limit { limit < 2 ^ 62 }
     requires room { 0 < length buf.old }
-    ensures whole { IfOk result (λ bytes. Holds (F.told files.old) name.now bytes.items) }
+    ensures whole { IfOk result (λ bytes. Holds (F.state files.old).told name.now bytes.items) }
     ensures within { IfOk result (λ bytes. vec_len bytes ≤ limit) }
-    ensures long { IsErrOf result FileFail.TooLong → IsLonger (F.told files.old) name.now limit }
-    ensures contents { F.told files.new ≡ F.told files.old }
-    ensures names { (other : List ℕ) → F.admits files.new other ≡ F.admits files.old other }
-    ensures cause { HasReadCause (F.faults files.old) (F.faults files.new) result }
+    ensures long { IsErrOf result FileFail.TooLong → IsLonger (F.state files.old).told name.now limit }
+    ensures contents { (F.state files.new).told ≡ (F.state files.old).told }
+    ensures names { (other : List ℕ) → (F.state files.new).admits other ≡ (F.state files.old).admits other }
+    ensures cause { HasReadCause (F.state files.old).faults (F.state files.new).faults result }
 {
     let mut bytes = Vec::new(alloc);
     while bytes.len() <= limit {
@@ -83,14 +83,11 @@ fn read_pieces<F: Files>(
 
 /// Writes all of a piece, in as many writes as the sink needs. After an error the front of the piece is written.
 pub fn write_whole<K: Sink>(sink: &mut K, piece: &[u8]) -> Result<(), WriteFail>
-    ensures { Wrote (K.written sink.old) (K.written sink.new) (K.faults sink.old) (K.faults sink.new) piece.now result }
+    ensures { Wrote (K.state sink.old) (K.state sink.new) piece.now result }
 {
     let mut at = 0;
     while at < piece.len() {
-        match sink.write(&piece[at..]) {
-            Ok(count) => at += count,
-            Err(fail) => return Err(fail),
-        }
+        at += sink.write(&piece[at..])?;
     }
     Ok(())
 }

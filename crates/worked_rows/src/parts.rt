@@ -1,8 +1,8 @@
 // The public calls below the top call, each once on its happy path.
 
 use crate::cases::{CONFIG, PASSING, memory_files, memory_sink, two_files};
+use check_core::Status;
 use outside::{FileFail, WriteFail, read_whole, write_whole};
-use run_terms::Status;
 use std::test::Fail;
 
 /// Whole files up to a limit, and whole pieces.

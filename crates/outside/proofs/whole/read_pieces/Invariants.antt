@@ -5,11 +5,11 @@ use Rattle.outside.proofs.whole.read_pieces.Given as goal
 
 abbrev pub invariant-loop-bytes : goal.invariant-loop-bytes
 invariant-loop-bytes g l = record {
-  front : BeginsWith (g.F.Files.told l.initial.files) l.name l.bytes.items;
+  front : BeginsWith (g.F.Files.state l.initial.files).told l.name l.bytes.items;
   within : vec_len l.bytes ≤ l.limit + 1;
-  contents : g.F.Files.told l.files ≡ g.F.Files.told l.initial.files;
-  names : (other : List ℕ) → g.F.Files.admits l.files other ≡ g.F.Files.admits l.initial.files other;
-  count : g.F.Files.faults l.files ≡ g.F.Files.faults l.initial.files;
+  contents : (g.F.Files.state l.files).told ≡ (g.F.Files.state l.initial.files).told;
+  names : (other : List ℕ) → (g.F.Files.state l.files).admits other ≡ (g.F.Files.state l.initial.files).admits other;
+  count : (g.F.Files.state l.files).faults ≡ (g.F.Files.state l.initial.files).faults;
 }
 
 abbrev pub decreases-loop-bytes : goal.decreases-loop-bytes

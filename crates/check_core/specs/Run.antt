@@ -1,0 +1,50 @@
+-- What a run of a command does. A further command is a further case in `Due`, `Begins` and `IsDue`.
+use Rattle.std.specs.Prelude.{◌≡◌, ◌⊎◌, ◌≢◌, List, ℕ, Option, Some}
+use Rattle.outside.specs.Contents.{Contents}
+use Rattle.outside.specs.Faults.{Rose}
+use Rattle.outside.specs.Written.{Appends, IsFront}
+use Rattle.read_config.specs.Configs.{config_of}
+use Rattle.check_core.specs.Status.{IsCut}
+use Rattle.check_core.specs.Words.{Command, check}
+use Rattle.check_core.specs.Outside.{Outside, IsKept, IsQuiet}
+use Rattle.check_core.specs.Inputs.{IsThere, Stops}
+use Rattle.check_core.specs.Check.{Checks}
+use Rattle.check_core.specs.declared.status.Status.{Status}
+use Rattle.check_core.specs.declared.status.Status.TheVariants.{ReadFault, WriteFault, Usage, TooLong}
+
+-- the text and the status that are due
+abbrev pub Due : Command → Contents → List ℕ → Status → Type 0
+Due (check config tests) = Checks config tests
+
+-- the front of some text that is due
+abbrev pub FrontOf : (Contents → List ℕ → Status → Type 0) → Contents → List ℕ → Type 0
+FrontOf due files bytes = (text : List ℕ) × (status : Status) × due files text status × IsFront bytes text
+
+-- the bytes may be the front of what is written
+abbrev pub Begins : Command → Contents → List ℕ → Type 0
+Begins (check config tests) = FrontOf (Checks config tests)
+
+-- the name is asked for: the tests only where the configuration doesn't end the call
+abbrev pub IsDue : Command → Option Contents → List ℕ → Type 0
+IsDue (check config tests) told name = (name ≡ config) ⊎ ((name ≡ tests) × (Stops config_of config told → ⊥))
+
+-- each file that is asked for is there
+abbrev pub AreThere : Command → Contents → Type 0
+AreThere command files = (name : List ℕ) → IsDue command (Some files) name → IsThere name files
+
+-- What a run is to do: There says which files have to be there, Text what is due, and Front what the front of a text is.
+-- Where files tell their bytes and are there, status and text are the due ones or the status is cut short, and whatever
+-- the status, the front of a text is written. A status that blames the outside comes only where its count rose.
+pub record Ends (There : Contents → Type 0) (Text : Contents → List ℕ → Status → Type 0) (Front : Contents → List ℕ → Type 0) (old new : Outside) (status : Status) : Type 0 where
+  pub defined : (files : Contents) → old.files ≡ Some files → There files → IsCut status ⊎ ((text : List ℕ) × Text files text status × Appends old.written new.written text)
+  pub front : (files : Contents) → old.files ≡ Some files → There files → (bytes : List ℕ) × Front files bytes × Appends old.written new.written bytes
+  pub silent : (status ≡ ReadFault) ⊎ (status ≡ TooLong) → new.written ≡ old.written
+  pub read : status ≡ ReadFault → Rose old.read_faults new.read_faults
+  pub write : status ≡ WriteFault → Rose old.write_faults new.write_faults
+  pub quiet : IsCut status ⊎ IsQuiet old new
+  pub kept : IsKept old new
+  pub grammar : status ≢ Usage
+
+-- a run of a command
+abbrev pub Runs : Command → Outside → Outside → Status → Type 0
+Runs command = Ends (AreThere command) (Due command) (Begins command)
