@@ -1,34 +1,36 @@
 //! Checks a route table: `check CONFIG TESTS`.
 #![tactic(auto)]
 
-mod host;
+ghost use Rattle.std.specs.Prelude.{◌≡◌};
+ghost use Rattle.std.specs.Process.{exit_status};
+ghost use Rattle.check_core.specs.Status.{number_of};
 
 use check_core::{Status, run};
-use host::{HostFiles, HostSink};
+use host_io::{HostFiles, HostSink, words};
 use std::io::ErrorKind;
 use std::process::ExitCode;
-use std::rt::Env;
-use std::{env, io};
 
-/// The words after the program's name.
-fn words(rt: &(impl Env + AllocGlobal)) -> io::Result<Vec<String>> {
-    let mut words = Vec::new(rt.alloc());
-    for word in env::args(rt)?.skip(1) {
-        words.push(word)?;
-    }
-    Ok(words)
-}
-
-fn main(rt: HostRuntime) -> ExitCode {
-    let status = match words(&rt) {
+/// Runs the words of the call over the host's files and its standard output. Words that are no UTF-8 are no call.
+fn run_words(rt: &HostRuntime) -> Status {
+    match words(rt) {
         Ok(words) => run(
             rt.alloc(),
             &words,
-            &mut HostFiles::new(&rt),
-            &mut HostSink::new(&rt),
+            &mut HostFiles::new(rt),
+            &mut HostSink::new(rt),
         ),
         Err(error) if error.kind() == ErrorKind::OutOfMemory => Status::NoMemory,
         Err(_) => Status::Usage,
-    };
+    }
+}
+
+/// What the program ends with: the number of the status.
+fn code_of(status: Status) -> ExitCode
+    ensures { exit_status result ≡ number_of status }
+{
     ExitCode::from(status.number())
+}
+
+fn main(rt: HostRuntime) -> ExitCode {
+    code_of(run_words(&rt))
 }

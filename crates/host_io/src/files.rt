@@ -1,7 +1,7 @@
-// The real files and the real output. They tell no bytes, and count the host's failures.
+// The host's files. They tell no bytes, and count the host's failures.
 ghost use Rattle.std.specs.Prelude.{◌≤◌, None, true, length, IfOk};
 
-use check_core::{Failed, Files, Sink, WriteFail};
+use outside::{Failed, Files};
 use std::fs::File;
 use std::io;
 use std::io::Read;
@@ -93,11 +93,7 @@ fn read_host(
 }
 
 impl<'a> Files for HostFiles<'a> {
-    ghost told = { λ files. None };
-
-    ghost admits = { λ files name. true };
-
-    ghost faults = { λ files. files.faults };
+    ghost state = { λ files. record { told = None; admits = λ name. true; faults = files.faults } };
 
     fn read(&mut self, name: &str, from: u64, buf: &mut [u8]) -> Result<usize, Failed> {
         match read_host(self.rt, &mut self.open, name, from, buf) {
@@ -105,36 +101,6 @@ impl<'a> Files for HostFiles<'a> {
             Err(_) => {
                 self.faults = self.faults.saturating_add(1);
                 Err(Failed)
-            }
-        }
-    }
-}
-
-/// The host's standard output. A write that takes nothing counts as a failure.
-#[derive(Drop)]
-pub struct HostSink<'a> {
-    rt: &'a HostRuntime,
-    faults: u64,
-}
-
-impl<'a> HostSink<'a> {
-    /// The standard output of the program.
-    pub fn new(rt: &'a HostRuntime) -> HostSink<'a> {
-        HostSink { rt, faults: 0 }
-    }
-}
-
-impl<'a> Sink for HostSink<'a> {
-    ghost written = { λ sink. None };
-
-    ghost faults = { λ sink. sink.faults };
-
-    fn write(&mut self, piece: &[u8]) -> Result<usize, WriteFail> {
-        match self.rt.write_some(piece) {
-            Ok(count) if count > 0 => Ok(count),
-            _ => {
-                self.faults = self.faults.saturating_add(1);
-                Err(WriteFail::Failed)
             }
         }
     }

@@ -1,0 +1,12 @@
+// The words of the call.
+use std::rt::Env;
+use std::{env, io};
+
+/// The words after the program's name.
+pub fn words(rt: &(impl Env + AllocGlobal)) -> io::Result<Vec<String>> {
+    let mut words = Vec::new(rt.alloc());
+    for word in env::args(rt)?.skip(1) {
+        words.push(word)?;
+    }
+    Ok(words)
+}
