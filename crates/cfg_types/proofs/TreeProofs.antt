@@ -8,7 +8,7 @@ use Rattle.std.proofs.Math.Nat.{suc-add}
 use Rattle.cfg_types.specs.TreeLaws.{Led, first_led, then_led, body_led, entry_led, key_led, led_or, tree_led, routes_led_to, TreeLaw}
 use Rattle.cfg_types.specs.declared.trees.Predicate.{Predicate}
 use Rattle.cfg_types.specs.Order.{Run, joined, then_routes, branch_routes, entry_routes, key_routes, tree_routes, then_step as then_run, body_step as body_run, entry_step as entry_run, key_step as key_run, tree_step as tree_run}
-use Rattle.cfg_types.specs.Trees.{Span, Place, Ways, Way, Keyed, behind, first_taken, ways, taken_or, then_step, body_step, entry_step, key_step, tree_step, tree_place, equal_key, prefix_key, longest_key, input_of, predicate_holds}
+use Rattle.cfg_types.specs.Trees.{Span, Place, Ways, Way, Keyed, behind, first_taken, ways, taken_or, then_step, body_step, entry_step, key_step, tree_step, tree_place, then_place, body_ways, entry_way, key_way, equal_key, prefix_key, longest_key, input_of, predicate_holds}
 use Rattle.cfg_types.specs.declared.trees.Then.{Then}
 use Rattle.cfg_types.specs.declared.trees.TreeBody.{TreeBody}
 use Rattle.cfg_types.specs.declared.trees.Entry.{Entry}
@@ -139,18 +139,6 @@ left-some (Some o) r rest p l m h k a =
     (within-more (length r) (length (r ++ rest)) o (omega (arith, length-append r rest)) h, rw k (run-front r rest o h))
 
 module _ (q : Asked) where
-  abbrev then_place : Then → Place
-  then_place = fold-Then Place Ways Way Keyed Place then_step (body_step q) (entry_step q) key_step tree_step
-
-  abbrev body_ways : TreeBody → Ways
-  body_ways = fold-TreeBody Place Ways Way Keyed Place then_step (body_step q) (entry_step q) key_step tree_step
-
-  abbrev entry_way : Entry → Way
-  entry_way = fold-Entry Place Ways Way Keyed Place then_step (body_step q) (entry_step q) key_step tree_step
-
-  abbrev key_way : KeyThen → Keyed
-  key_way = fold-KeyThen Place Ways Way Keyed Place then_step (body_step q) (entry_step q) key_step tree_step
-
   abbrev led_then : Then → Led
   led_then = fold-Then Led (Option Led) (Bool × Led) (Bytes × Led) Led then_led (body_led q) (entry_led q) key_led tree_led
 
@@ -164,24 +152,24 @@ module _ (q : Asked) where
   led_key = fold-KeyThen Led (Option Led) (Bool × Led) (Bytes × Led) Led then_led (body_led q) (entry_led q) key_led tree_led
 
   abbrev OfThen : Then → Type 0
-  OfThen t = Agrees (then_place t) (then_routes t) (led_then t)
+  OfThen t = Agrees (then_place q t) (then_routes t) (led_then t)
 
   abbrev OfBody : TreeBody → Type 0
-  OfBody b = AgreesWays (body_ways b) (branch_routes b) (led_body b)
+  OfBody b = AgreesWays (body_ways q b) (branch_routes b) (led_body b)
 
   pub record OfEntry (e : Entry) : Type 0 where
-    pub test : (entry_way e).0 ≡ (led_entry e).0
-    pub agrees : Agrees (entry_way e).1 (entry_routes e) (led_entry e).1
+    pub test : (entry_way q e).0 ≡ (led_entry e).0
+    pub agrees : Agrees (entry_way q e).1 (entry_routes e) (led_entry e).1
 
   pub record OfKey (k : KeyThen) : Type 0 where
-    pub key : (key_way k).0 ≡ (led_key k).0
-    pub agrees : Agrees (key_way k).1 (key_routes k) (led_key k).1
+    pub key : (key_way q k).0 ≡ (led_key k).0
+    pub agrees : Agrees (key_way q k).1 (key_routes k) (led_key k).1
 
   abbrev OfTree : Tree → Type 0
   OfTree t = Agrees (tree_place q t) (tree_routes t) (routes_led_to q t)
 
   then_roll : (x : Then-F Then TreeBody Entry KeyThen Tree) →
-      Agrees (then_step (map-Then Then TreeBody Entry KeyThen Tree Place Ways Way Keyed Place then_place body_ways entry_way key_way (tree_place q) x))
+      Agrees (then_step (map-Then Then TreeBody Entry KeyThen Tree Place Ways Way Keyed Place (then_place q) (body_ways q) (entry_way q) (key_way q) (tree_place q) x))
       (then_run (map-Then Then TreeBody Entry KeyThen Tree Run Run Run Run Run then_routes branch_routes entry_routes key_routes tree_routes x))
       (then_led (map-Then Then TreeBody Entry KeyThen Tree Led (Option Led) (Bool × Led) (Bytes × Led) Led led_then led_body led_entry led_key (routes_led_to q) x)) →
       OfThen (roll-Then x)
@@ -199,12 +187,12 @@ module _ (q : Asked) where
 
   -- ---- entries and maps
 
-  entries_agree : (es : List ((e : Entry) × OfEntry e)) → AgreeEach (map entry_way (map (λ e. e.0) es)) (map entry_routes (map (λ e. e.0) es)) (map led_entry (map (λ e. e.0) es))
+  entries_agree : (es : List ((e : Entry) × OfEntry e)) → AgreeEach (map (entry_way q) (map (λ e. e.0) es)) (map entry_routes (map (λ e. e.0) es)) (map led_entry (map (λ e. e.0) es))
   entries_agree [] = tt
   entries_agree (e ∷ es) = (e.1.test, e.1.agrees, entries_agree es)
 
   abbrev ways_of : List ((k : KeyThen) × OfKey k) → List Keyed
-  ways_of ks = map key_way (map (λ k. k.0) ks)
+  ways_of ks = map (key_way q) (map (λ k. k.0) ks)
 
   abbrev leds_of : List ((k : KeyThen) × OfKey k) → List (Bytes × Led)
   leds_of ks = map led_key (map (λ k. k.0) ks)
@@ -223,7 +211,7 @@ module _ (q : Asked) where
   keys_agree p r e (k ∷ ks) = (ap p k.1.key ∙ e (led_key k.0).0, k.1.agrees, keys_agree p r e ks)
 
   body_roll : (x : TreeBody-F Then TreeBody Entry KeyThen Tree) →
-      AgreesWays (body_step q (map-TreeBody Then TreeBody Entry KeyThen Tree Place Ways Way Keyed Place then_place body_ways entry_way key_way (tree_place q) x))
+      AgreesWays (body_step q (map-TreeBody Then TreeBody Entry KeyThen Tree Place Ways Way Keyed Place (then_place q) (body_ways q) (entry_way q) (key_way q) (tree_place q) x))
       (body_run (map-TreeBody Then TreeBody Entry KeyThen Tree Run Run Run Run Run then_routes branch_routes entry_routes key_routes tree_routes x))
       (body_led q (map-TreeBody Then TreeBody Entry KeyThen Tree Led (Option Led) (Bool × Led) (Bytes × Led) Led led_then led_body led_entry led_key (routes_led_to q) x)) →
       OfBody (roll-TreeBody x)
@@ -250,7 +238,7 @@ module _ (q : Asked) where
     agrees = rw (entry_ways test t, entry_leds test t, fold-roll-Entry Run Run Run Run Run then_run body_run entry_run key_run tree_run (record { test = test; next = t })) h;
   }
     where
-      entry_ways : (test : Predicate) (t : Then) → entry_way (roll-Entry (record { test = test; next = t })) ≡ (predicate_holds q test, then_place t)
+      entry_ways : (test : Predicate) (t : Then) → entry_way q (roll-Entry (record { test = test; next = t })) ≡ (predicate_holds q test, then_place q t)
       entry_ways test t = fold-roll-Entry Place Ways Way Keyed Place then_step (body_step q) (entry_step q) key_step tree_step (record { test = test; next = t })
 
       entry_leds : (test : Predicate) (t : Then) → led_entry (roll-Entry (record { test = test; next = t })) ≡ (predicate_holds q test, led_then t)
@@ -262,14 +250,14 @@ module _ (q : Asked) where
     agrees = rw (key_ways key t, key_leds key t, fold-roll-KeyThen Run Run Run Run Run then_run body_run entry_run key_run tree_run (record { key = key; next = t })) h;
   }
     where
-      key_ways : (key : Bytes) (t : Then) → key_way (roll-KeyThen (record { key = key; next = t })) ≡ (key, then_place t)
+      key_ways : (key : Bytes) (t : Then) → key_way q (roll-KeyThen (record { key = key; next = t })) ≡ (key, then_place q t)
       key_ways key t = fold-roll-KeyThen Place Ways Way Keyed Place then_step (body_step q) (entry_step q) key_step tree_step (record { key = key; next = t })
 
       key_leds : (key : Bytes) (t : Then) → led_key (roll-KeyThen (record { key = key; next = t })) ≡ (key, led_then t)
       key_leds key t = fold-roll-KeyThen Led (Option Led) (Bool × Led) (Bytes × Led) Led then_led (body_led q) (entry_led q) key_led tree_led (record { key = key; next = t })
 
   tree_roll : (x : Tree-F Then TreeBody Entry KeyThen Tree) →
-      Agrees (tree_step (map-Tree Then TreeBody Entry KeyThen Tree Place Ways Way Keyed Place then_place body_ways entry_way key_way (tree_place q) x))
+      Agrees (tree_step (map-Tree Then TreeBody Entry KeyThen Tree Place Ways Way Keyed Place (then_place q) (body_ways q) (entry_way q) (key_way q) (tree_place q) x))
       (tree_run (map-Tree Then TreeBody Entry KeyThen Tree Run Run Run Run Run then_routes branch_routes entry_routes key_routes tree_routes x))
       (tree_led (map-Tree Then TreeBody Entry KeyThen Tree Led (Option Led) (Bool × Led) (Bytes × Led) Led led_then led_body led_entry led_key (routes_led_to q) x)) →
       OfTree (roll-Tree x)
@@ -284,20 +272,20 @@ module _ (q : Asked) where
       OfTree (roll-Tree (map-Tree ((t : Then) × OfThen t) ((b : TreeBody) × OfBody b) ((e : Entry) × OfEntry e) ((k : KeyThen) × OfKey k) ((t : Tree) × OfTree t) Then TreeBody Entry KeyThen Tree (λ e. e.0) (λ e. e.0) (λ e. e.0) (λ e. e.0) (λ e. e.0) (record { body = b; otherwise = o })))
   tree_case b None =
       let e = b.1.size in
-      let p = left-none (body_ways b.0).taken (branch_routes b.0) (led_body b.0) b.1.taken b.1.led in
+      let p = left-none (body_ways q b.0).taken (branch_routes b.0) (led_body b.0) b.1.taken b.1.led in
       tree_roll (record { body = b.0; otherwise = None }) (record {
         size = omega (arith, length-append (branch_routes b.0) []);
-        outcome = subst (λ n. Within (length (branch_routes b.0 ++ [])) (taken_or (body_ways b.0).taken n None)) (sym e) p.0;
-        led = subst (λ n. led_or (led_body b.0) None ≡ of_run (branch_routes b.0 ++ []) (taken_or (body_ways b.0).taken n None)) (sym e) p.1;
+        outcome = subst (λ n. Within (length (branch_routes b.0 ++ [])) (taken_or (body_ways q b.0).taken n None)) (sym e) p.0;
+        led = subst (λ n. led_or (led_body b.0) None ≡ of_run (branch_routes b.0 ++ []) (taken_or (body_ways q b.0).taken n None)) (sym e) p.1;
       })
   tree_case b (Some t) =
       let e = b.1.size in
       let f = t.1.size in
-      let p = left-some (body_ways b.0).taken (branch_routes b.0) (then_routes t.0) (then_place t.0) (led_body b.0) (led_then t.0) b.1.taken b.1.led t.1 in
+      let p = left-some (body_ways q b.0).taken (branch_routes b.0) (then_routes t.0) (then_place q t.0) (led_body b.0) (led_then t.0) b.1.taken b.1.led t.1 in
       tree_roll (record { body = b.0; otherwise = Some t.0 }) (record {
         size = omega (arith, length-append (branch_routes b.0) (then_routes t.0));
-        outcome = subst (λ n. Within (length (branch_routes b.0 ++ then_routes t.0)) (taken_or (body_ways b.0).taken n (Some (then_place t.0)))) (sym e) p.0;
-        led = subst (λ n. led_or (led_body b.0) (Some (led_then t.0)) ≡ of_run (branch_routes b.0 ++ then_routes t.0) (taken_or (body_ways b.0).taken n (Some (then_place t.0)))) (sym e) p.1;
+        outcome = subst (λ n. Within (length (branch_routes b.0 ++ then_routes t.0)) (taken_or (body_ways q b.0).taken n (Some (then_place q t.0)))) (sym e) p.0;
+        led = subst (λ n. led_or (led_body b.0) (Some (led_then t.0)) ≡ of_run (branch_routes b.0 ++ then_routes t.0) (taken_or (body_ways q b.0).taken n (Some (then_place q t.0)))) (sym e) p.1;
       })
 
   tree_agrees : (t : Tree) → OfTree t

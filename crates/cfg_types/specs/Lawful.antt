@@ -48,8 +48,12 @@ use Rattle.cfg_types.specs.declared.trees.Predicate.{Predicate}
 use Rattle.cfg_types.specs.declared.trees.Predicate.TheOpen as layer
 use Rattle.cfg_types.specs.declared.trees.Predicate.TheFolds.{fold-Predicate}
 use Rattle.cfg_types.specs.declared.trees.Tree.{Tree}
-use Rattle.cfg_types.specs.declared.trees.Then.TheOpen.{Then-F, TreeBody-F, Inner, Routes, Bare, List as Entries, Exact, Prefix}
-use Rattle.cfg_types.specs.declared.trees.Then.TheFolds.{fold-Tree}
+use Rattle.cfg_types.specs.declared.trees.Then.{Then}
+use Rattle.cfg_types.specs.declared.trees.TreeBody.{TreeBody}
+use Rattle.cfg_types.specs.declared.trees.Entry.{Entry}
+use Rattle.cfg_types.specs.declared.trees.KeyThen.{KeyThen}
+use Rattle.cfg_types.specs.declared.trees.Then.TheOpen.{Then-F, TreeBody-F, Entry-F, KeyThen-F, Tree-F, Inner, Routes, Bare, List as Entries, Exact, Prefix}
+use Rattle.cfg_types.specs.declared.trees.Then.TheFolds.{fold-Tree, fold-Then, fold-TreeBody, fold-Entry, fold-KeyThen}
 
 -- ---- rules
 
@@ -217,19 +221,34 @@ abbrev pub or_zero : Option ℕ → ℕ
 or_zero None = 0
 or_zero (Some n) = n
 
+abbrev pub then_depth_step : Then-F ℕ ℕ ℕ ℕ ℕ → ℕ
+then_depth_step (Inner tree) = tree
+then_depth_step (Routes rs) = 0
+
+abbrev pub body_depth_step : TreeBody-F ℕ ℕ ℕ ℕ ℕ → ℕ
+body_depth_step Bare = 0
+body_depth_step (Entries es) = greatest es
+body_depth_step (Exact i ks) = greatest ks
+body_depth_step (Prefix i ks) = greatest ks
+
+abbrev pub tree_depth_step : Tree-F ℕ ℕ ℕ ℕ ℕ → ℕ
+tree_depth_step t = 1 + max t.body (or_zero t.otherwise)
+
 -- how deep a matcher is nested; one without inner matchers has the depth 1
 abbrev pub tree_depth : Tree → ℕ
-tree_depth = fold-Tree ℕ ℕ ℕ ℕ ℕ then_depth body_depth (λ e. e.next) (λ k. k.next) (λ t. 1 + max t.body (or_zero t.otherwise))
-  where
-    then_depth : Then-F ℕ ℕ ℕ ℕ ℕ → ℕ
-    then_depth (Inner tree) = tree
-    then_depth (Routes rs) = 0
+tree_depth = fold-Tree ℕ ℕ ℕ ℕ ℕ then_depth_step body_depth_step (λ e. e.next) (λ k. k.next) tree_depth_step
 
-    body_depth : TreeBody-F ℕ ℕ ℕ ℕ ℕ → ℕ
-    body_depth Bare = 0
-    body_depth (Entries es) = greatest es
-    body_depth (Exact i ks) = greatest ks
-    body_depth (Prefix i ks) = greatest ks
+abbrev pub then_depth : Then → ℕ
+then_depth = fold-Then ℕ ℕ ℕ ℕ ℕ then_depth_step body_depth_step (λ e. e.next) (λ k. k.next) tree_depth_step
+
+abbrev pub body_depth : TreeBody → ℕ
+body_depth = fold-TreeBody ℕ ℕ ℕ ℕ ℕ then_depth_step body_depth_step (λ e. e.next) (λ k. k.next) tree_depth_step
+
+abbrev pub entry_depth : Entry → ℕ
+entry_depth = fold-Entry ℕ ℕ ℕ ℕ ℕ then_depth_step body_depth_step (λ e. e.next) (λ k. k.next) tree_depth_step
+
+abbrev pub key_depth : KeyThen → ℕ
+key_depth = fold-KeyThen ℕ ℕ ℕ ℕ ℕ then_depth_step body_depth_step (λ e. e.next) (λ k. k.next) tree_depth_step
 
 abbrev pub or_true : Option Bool → Bool
 or_true None = true
@@ -240,36 +259,73 @@ abbrev pub map_is_filled : (Bytes → Bytes → Bool) → InputRule → List (By
 map_is_filled order i ks =
     is_input i && not (is_empty ks) && list_all (λ k. is_matcher_text k.0) ks && are_ordered order (map (λ k. k.0) ks) && list_all (λ k. k.1) ks
 
+abbrev pub then_filled_step : Then-F Bool Bool Bool (Bytes × Bool) Bool → Bool
+then_filled_step (Inner tree) = tree
+then_filled_step (Routes rs) = true
+
+abbrev pub body_filled_step : TreeBody-F Bool Bool Bool (Bytes × Bool) Bool → Bool
+body_filled_step Bare = true
+body_filled_step (Entries es) = not (is_empty es) && list_all (λ e. e) es
+body_filled_step (Exact i ks) = map_is_filled byte_order i ks
+body_filled_step (Prefix i ks) = map_is_filled longer_first i ks
+
+abbrev pub key_filled_step : KeyThen-F Bool Bool Bool (Bytes × Bool) Bool → Bytes × Bool
+key_filled_step k = (k.key, k.next)
+
+abbrev pub tree_filled_step : Tree-F Bool Bool Bool (Bytes × Bool) Bool → Bool
+tree_filled_step t = t.body && or_true t.otherwise
+
 -- no list or map is empty, inputs of maps are lawful, and their keys are distinct and in order
 abbrev pub tree_is_filled : Tree → Bool
-tree_is_filled = fold-Tree Bool Bool Bool (Bytes × Bool) Bool then_filled body_filled (λ e. e.next) (λ k. (k.key, k.next)) (λ t. t.body && or_true t.otherwise)
-  where
-    then_filled : Then-F Bool Bool Bool (Bytes × Bool) Bool → Bool
-    then_filled (Inner tree) = tree
-    then_filled (Routes rs) = true
+tree_is_filled = fold-Tree Bool Bool Bool (Bytes × Bool) Bool then_filled_step body_filled_step (λ e. e.next) key_filled_step tree_filled_step
 
-    body_filled : TreeBody-F Bool Bool Bool (Bytes × Bool) Bool → Bool
-    body_filled Bare = true
-    body_filled (Entries es) = not (is_empty es) && list_all (λ e. e) es
-    body_filled (Exact i ks) = map_is_filled byte_order i ks
-    body_filled (Prefix i ks) = map_is_filled longer_first i ks
+abbrev pub then_is_filled : Then → Bool
+then_is_filled = fold-Then Bool Bool Bool (Bytes × Bool) Bool then_filled_step body_filled_step (λ e. e.next) key_filled_step tree_filled_step
+
+abbrev pub body_is_filled : TreeBody → Bool
+body_is_filled = fold-TreeBody Bool Bool Bool (Bytes × Bool) Bool then_filled_step body_filled_step (λ e. e.next) key_filled_step tree_filled_step
+
+abbrev pub entry_is_filled : Entry → Bool
+entry_is_filled = fold-Entry Bool Bool Bool (Bytes × Bool) Bool then_filled_step body_filled_step (λ e. e.next) key_filled_step tree_filled_step
+
+-- the key of an entry, and whether the entry is filled
+abbrev pub key_filled : KeyThen → Bytes × Bool
+key_filled = fold-KeyThen Bool Bool Bool (Bytes × Bool) Bool then_filled_step body_filled_step (λ e. e.next) key_filled_step tree_filled_step
 
 abbrev pub Tests : Type 0
 Tests = List Predicate
 
+abbrev pub then_tests_step : Then-F Tests Tests Tests Tests Tests → Tests
+then_tests_step (Inner tree) = tree
+then_tests_step (Routes rs) = []
+
+abbrev pub body_tests_step : TreeBody-F Tests Tests Tests Tests Tests → Tests
+body_tests_step Bare = []
+body_tests_step (Entries es) = joined es
+body_tests_step (Exact i ks) = joined ks
+body_tests_step (Prefix i ks) = joined ks
+
+abbrev pub entry_tests_step : Entry-F Tests Tests Tests Tests Tests → Tests
+entry_tests_step e = e.test ∷ e.next
+
+abbrev pub tree_tests_step : Tree-F Tests Tests Tests Tests Tests → Tests
+tree_tests_step t = t.body ++ or_nothing t.otherwise
+
 -- the predicates of a tree
 abbrev pub tree_predicates : Tree → List Predicate
-tree_predicates = fold-Tree Tests Tests Tests Tests Tests then_tests body_tests (λ e. e.test ∷ e.next) (λ k. k.next) (λ t. t.body ++ or_nothing t.otherwise)
-  where
-    then_tests : Then-F Tests Tests Tests Tests Tests → Tests
-    then_tests (Inner tree) = tree
-    then_tests (Routes rs) = []
+tree_predicates = fold-Tree Tests Tests Tests Tests Tests then_tests_step body_tests_step entry_tests_step (λ k. k.next) tree_tests_step
 
-    body_tests : TreeBody-F Tests Tests Tests Tests Tests → Tests
-    body_tests Bare = []
-    body_tests (Entries es) = joined es
-    body_tests (Exact i ks) = joined ks
-    body_tests (Prefix i ks) = joined ks
+abbrev pub then_predicates : Then → List Predicate
+then_predicates = fold-Then Tests Tests Tests Tests Tests then_tests_step body_tests_step entry_tests_step (λ k. k.next) tree_tests_step
+
+abbrev pub body_predicates : TreeBody → List Predicate
+body_predicates = fold-TreeBody Tests Tests Tests Tests Tests then_tests_step body_tests_step entry_tests_step (λ k. k.next) tree_tests_step
+
+abbrev pub entry_predicates : Entry → List Predicate
+entry_predicates = fold-Entry Tests Tests Tests Tests Tests then_tests_step body_tests_step entry_tests_step (λ k. k.next) tree_tests_step
+
+abbrev pub key_predicates : KeyThen → List Predicate
+key_predicates = fold-KeyThen Tests Tests Tests Tests Tests then_tests_step body_tests_step entry_tests_step (λ k. k.next) tree_tests_step
 
 pub record IsLawfulTree (t : Tree) : Type 0 where
   pub depth : tree_depth t ≤ 12

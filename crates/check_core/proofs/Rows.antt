@@ -1,5 +1,5 @@
 -- Cases of the definitions by computation: the names of kinds, lines of refusals, the numbers of statuses, words of calls.
-use Rattle.std.proofs.Common.{◌≡◌, [], ◌∷◌, map, Some, None, refl}
+use Rattle.std.proofs.Common.{◌≡◌, ℕ, Bool, true, false, List, [], ◌∷◌, map, Option, Some, None, refl}
 use Rattle.std.specs.Prelude.{codes}
 use Rattle.json_walk.specs.declared.refusal.Kind.TheVariants as kind
 use Rattle.outside.specs.declared.whole.FileFail.TheVariants as file
@@ -7,7 +7,9 @@ use Rattle.outside.specs.declared.sink.WriteFail.TheVariants as sink
 use Rattle.serde_json.specs.Data.{number, string, object, no_members, member, unsigned}
 use Rattle.check_core.specs.Refusals.{kind_name, refusal_value}
 use Rattle.check_core.specs.Status.{number_of, read_status_of, write_status_of}
-use Rattle.check_core.specs.Words.{check, parsed}
+use Rattle.text_base.specs.Asked.{Bytes}
+use Rattle.check_core.specs.Check.{status_of}
+use Rattle.check_core.specs.Words.{Command, check, parsed}
 use Rattle.check_core.specs.declared.status.Status.TheVariants as status
 
 kinds : map kind_name (kind.Syntax ∷ kind.UnknownField ∷ kind.WrongKind ∷ kind.Missing ∷ kind.Conflict ∷ kind.OutOfRange ∷ []) ≡
@@ -38,11 +40,47 @@ failed_reads = refl
 failed_writes : map write_status_of (sink.Failed ∷ sink.OutOfMemory ∷ []) ≡ status.WriteFault ∷ status.NoMemory ∷ []
 failed_writes = refl
 
-call_of_check : parsed (codes "check" ∷ codes "c.json" ∷ codes "t.json" ∷ []) ≡ Some (check (codes "c.json") (codes "t.json"))
-call_of_check = refl
+-- words behind `check`
+abbrev call : List Bytes → Option Command
+call words = parsed (codes "check" ∷ words)
 
-option_in_place_of_file : parsed (codes "check" ∷ codes "c.json" ∷ codes "-t" ∷ []) ≡ None
-option_in_place_of_file = refl
+-- the call of these two files
+abbrev files : ℕ → Bool → Option Command
+files percent only_failures = Some (check (record { config = codes "c.json"; tests = codes "t.json"; fail_under = percent; only_failures = only_failures }))
 
-one_word_more : parsed (codes "check" ∷ codes "c.json" ∷ codes "t.json" ∷ codes "t" ∷ []) ≡ None
-one_word_more = refl
+two_files : call (codes "c.json" ∷ codes "t.json" ∷ []) ≡ files 0 false
+two_files = refl
+
+options_anywhere : call (codes "--only-show-failures" ∷ codes "c.json" ∷ codes "--fail-under=50" ∷ codes "t.json" ∷ []) ≡ files 50 true
+options_anywhere = refl
+
+all_routes : call (codes "c.json" ∷ codes "t.json" ∷ codes "--fail-under=100" ∷ []) ≡ files 100 false
+all_routes = refl
+
+-- words that are no call
+abbrev refused : List Bytes → Option Command
+refused options = call (codes "c.json" ∷ codes "t.json" ∷ options)
+
+no_call : map refused ((codes "t" ∷ []) ∷ (codes "-t" ∷ []) ∷ (codes "--" ∷ []) ∷ ([] ∷ []) ∷ (codes "--fail-under=101" ∷ []) ∷ (codes "--fail-under=05" ∷ []) ∷ (codes "--fail-under=+5" ∷ []) ∷ [])
+    ≡ None ∷ None ∷ None ∷ None ∷ None ∷ None ∷ None ∷ []
+no_call = refl
+
+no_other_option : map refused ((codes "--fail-under=" ∷ []) ∷ (codes "--fail-under" ∷ []) ∷ (codes "--fail_under=5" ∷ []) ∷ (codes "--only-show-failures=true" ∷ []) ∷ (codes "--splits=16" ∷ []) ∷ [])
+    ≡ None ∷ None ∷ None ∷ None ∷ None ∷ []
+no_other_option = refl
+
+option_twice : map refused ((codes "--fail-under=0" ∷ codes "--fail-under=0" ∷ []) ∷ (codes "--only-show-failures" ∷ codes "--only-show-failures" ∷ []) ∷ []) ≡ None ∷ None ∷ []
+option_twice = refl
+
+option_in_place_of_a_file : call (codes "c.json" ∷ codes "-t" ∷ []) ≡ None
+option_in_place_of_a_file = refl
+
+one_file : call (codes "c.json" ∷ codes "--fail-under=0" ∷ []) ≡ None
+one_file = refl
+
+other_command : parsed (codes "--fail-under=0" ∷ codes "check" ∷ codes "c.json" ∷ codes "t.json" ∷ []) ≡ None
+other_command = refl
+
+-- one of two routes is 50 percent, which is not less than 50
+half_covered : status_of 50 0 1 2 ∷ status_of 51 0 1 2 ∷ status_of 0 1 2 2 ∷ status_of 100 0 0 0 ∷ [] ≡ status.Done ∷ status.TestsFailed ∷ status.TestsFailed ∷ status.Done ∷ []
+half_covered = refl

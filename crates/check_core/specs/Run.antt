@@ -14,7 +14,7 @@ use Rattle.check_core.specs.declared.status.Status.TheVariants.{ReadFault, Write
 
 -- the text and the status that are due
 abbrev pub Due : Command → Contents → List ℕ → Status → Type 0
-Due (check config tests) = Checks config tests
+Due (check call) = Checks call
 
 -- the front of some text that is due
 abbrev pub FrontOf : (Contents → List ℕ → Status → Type 0) → Contents → List ℕ → Type 0
@@ -22,11 +22,11 @@ FrontOf due files bytes = (text : List ℕ) × (status : Status) × due files te
 
 -- the bytes may be the front of what is written
 abbrev pub Begins : Command → Contents → List ℕ → Type 0
-Begins (check config tests) = FrontOf (Checks config tests)
+Begins (check call) = FrontOf (Checks call)
 
 -- the name is asked for: the tests only where the configuration doesn't end the call
 abbrev pub IsDue : Command → Option Contents → List ℕ → Type 0
-IsDue (check config tests) told name = (name ≡ config) ⊎ ((name ≡ tests) × (Stops config_of config told → ⊥))
+IsDue (check call) told name = (name ≡ call.config) ⊎ ((name ≡ call.tests) × (Stops config_of call.config told → ⊥))
 
 -- each file that is asked for is there
 abbrev pub AreThere : Command → Contents → Type 0

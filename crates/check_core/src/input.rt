@@ -1,7 +1,6 @@
 // The files that a command reads whole and judges.
 ghost use Rattle.std.specs.Prelude.{◌≡◌, List, ℕ, All, IsTrue, IfOk, OnOk, IfErr, codes};
 ghost use Rattle.json_walk.specs.Outcome.{Outcome, Gives};
-ghost use Rattle.cfg_types.specs.Built.{is_built};
 ghost use Rattle.cfg_types.specs.Lawful.{IsLawful};
 ghost use Rattle.read_config.specs.Configs.{config_of};
 ghost use Rattle.test_read.specs.Lawful.{IsLawfulTest};
@@ -55,7 +54,7 @@ impl InputFile for ConfigFile {
 
     ghost outcome = { config_of };
 
-    ghost is_lawful = { λ c. IsLawful c × IsTrue (is_built c) };
+    ghost is_lawful = { IsLawful };
 
     ghost called = { codes "config" };
 

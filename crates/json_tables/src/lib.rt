@@ -6,11 +6,9 @@ mod fields;
 mod laws;
 mod message;
 mod outside;
-mod unbuilt;
 
 pub use carried::carried_of;
 pub use fields::fields_of;
 pub use laws::{camel_is_met_first, spellings_differ};
 pub use message::{Message, Spellings};
 pub use outside::outside_of;
-pub use unbuilt::unbuilt_of;

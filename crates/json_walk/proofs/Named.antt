@@ -6,8 +6,7 @@ use Rattle.json_tables.specs.declared.message.Message.{Message}
 use Rattle.json_tables.specs.Spellings.{Spelled, spellings, with_camel}
 use Rattle.json_tables.specs.Fields.{fields}
 use Rattle.json_tables.specs.Carried.{carried}
-use Rattle.json_tables.specs.Refused.{outside}
-use Rattle.json_tables.specs.Unbuilt.{unbuilt}
+use Rattle.json_tables.specs.Outside.{outside}
 use Rattle.json_walk.specs.Members.{named, judge, allowed}
 
 pub spellings-append : (a b : List (List ℕ)) → spellings (a ++ b) ≡ spellings a ++ spellings b
@@ -22,7 +21,7 @@ pub named-append : (k : List ℕ) (a b : List Spelled) → named k (a ++ b) ≡ 
 named-append k [] b = refl
 named-append k (x ∷ a) b = found (bytes_eq k x.0 || bytes_eq k x.1) x _ _ _ (named-append k a b)
 
--- the refused members in both their tables, and then the fields and the carried members
-pub judged : (m : Message) (p : List ℕ) (d : Data) (k : List ℕ) (e : Data) → judge m p d k e ≡ allowed p d k e (option_or (named k (spellings (outside m))) (named k (spellings (unbuilt m)))) (option_or (named k (spellings (fields m))) (named k (spellings (carried m))))
+-- the members outside the profile, and then the fields and the carried members
+pub judged : (m : Message) (p : List ℕ) (d : Data) (k : List ℕ) (e : Data) → judge m p d k e ≡ allowed p d k e (named k (spellings (outside m))) (option_or (named k (spellings (fields m))) (named k (spellings (carried m))))
 unfolding judge
-judged m p d k e = ap (λ n. allowed p d k e n (named k (spellings (fields m ++ carried m)))) (ap (named k) (spellings-append (outside m) (unbuilt m)) ∙ named-append k (spellings (outside m)) (spellings (unbuilt m))) ∙ ap (allowed p d k e (option_or (named k (spellings (outside m))) (named k (spellings (unbuilt m))))) (ap (named k) (spellings-append (fields m) (carried m)) ∙ named-append k (spellings (fields m)) (spellings (carried m)))
+judged m p d k e = ap (allowed p d k e (named k (spellings (outside m)))) (ap (named k) (spellings-append (fields m) (carried m)) ∙ named-append k (spellings (fields m)) (spellings (carried m)))

@@ -2,8 +2,8 @@
 use Rattle.std.proofs.Common.{◌≡◌, [], ◌∷◌, true, false, Some, None, Ok, refl, pos, negsuc}
 use Rattle.std.specs.Prelude.{codes, Float}
 use Rattle.serde_json.specs.Data.{Data, null, boolean, number, unsigned, negative, float, string, array, object, no_items, item, no_members, member}
-use Rattle.json_tables.specs.declared.message.Message.TheVariants.{StringMatcher, RegexMatcher, RouteMatch, Validate}
-use Rattle.json_tables.specs.Names.{exact, prefix, suffix, contains, safe_regex, ignore_case, custom, regex, google_re2, path, path_separated_prefix, case_sensitive, runtime_fraction, headers, query_parameters, grpc, connect_matcher, path_match_policy, tls_context, dynamic_metadata, filter_state, cookies, name, cluster_name, virtual_cluster_name, virtual_host_name, host_rewrite, path_rewrite, path_redirect, request_header_matches, response_header_matches}
+use Rattle.json_tables.specs.declared.message.Message.TheVariants.{StringMatcher, RegexMatcher, RouteMatch}
+use Rattle.json_tables.specs.Names.{exact, prefix, suffix, contains, safe_regex, ignore_case, custom, regex, google_re2, path, path_separated_prefix, case_sensitive, runtime_fraction, headers, query_parameters, grpc, connect_matcher, path_match_policy, tls_context, dynamic_metadata, filter_state, cookies, name}
 use Rattle.json_walk.specs.declared.refusal.Kind.TheVariants.{UnknownField, WrongKind, Missing, Conflict, OutOfRange, TooMany, NotInProfile}
 use Rattle.json_walk.specs.Outcome.{offence}
 use Rattle.json_walk.specs.Places.{at_index}
@@ -63,11 +63,6 @@ refused_member_of_null = refl
 refused_member_beside_its_other_spelling : members_at RouteMatch [] (object (member (codes "tlsContext") null (member (codes "tls_context") (boolean true) no_members))) ≡ offence (codes "/tls_context") NotInProfile
 unfolding members_at scan_object scan judge allowed known once prefix path safe_regex path_separated_prefix case_sensitive runtime_fraction headers query_parameters grpc connect_matcher path_match_policy tls_context dynamic_metadata filter_state cookies
 refused_member_beside_its_other_spelling = refl
-
-unbuilt_field : members_at Validate (codes "/tests/0/validate") (object (member (codes "virtual_cluster_name") (string (codes "v")) no_members))
-    ≡ offence (codes "/tests/0/validate/virtual_cluster_name") NotInProfile
-unfolding members_at scan_object scan judge allowed known once cluster_name virtual_cluster_name virtual_host_name host_rewrite path_rewrite path_redirect request_header_matches response_header_matches
-unbuilt_field = refl
 
 -- ---- steps 3 and 4
 

@@ -7,7 +7,7 @@ use Rattle.json_tables.specs.declared.message.Message.{Message}
 use Rattle.json_tables.specs.Spellings.{Spelled, spellings}
 use Rattle.json_tables.specs.Fields.{fields}
 use Rattle.json_tables.specs.Carried.{carried}
-use Rattle.json_tables.specs.Refused.{refused}
+use Rattle.json_tables.specs.Outside.{outside}
 use Rattle.json_walk.specs.declared.refusal.Kind.TheVariants.{UnknownField, WrongKind, Conflict, NotInProfile}
 use Rattle.json_walk.specs.Outcome.{Outcome, offence, ◌>>=◌}
 use Rattle.json_walk.specs.Places.{under}
@@ -29,14 +29,14 @@ unfoldable pub known : List ℕ → Data → List ℕ → Option Spelled → Out
 known p d k None = offence (under p k) UnknownField
 known p d k (Some n) = once p d k n
 
--- a refused member may stand here as null only
+-- a member outside the profile may stand here as null only
 unfoldable pub allowed : List ℕ → Data → List ℕ → Data → Option Spelled → Option Spelled → Outcome ⊤
 allowed p d k e (Some n) other = if is_null e then once p d k n else offence (under p n.0) NotInProfile
 allowed p d k e None other = known p d k other
 
--- the member k, whose value is e, of the object d at p: refused ones are looked up first
+-- the member k, whose value is e, of the object d at p: those outside the profile are looked up first
 unfoldable pub judge : Message → List ℕ → Data → List ℕ → Data → Outcome ⊤
-judge m p d k e = allowed p d k e (named k (spellings (refused m))) (named k (spellings (fields m ++ carried m)))
+judge m p d k e = allowed p d k e (named k (spellings (outside m))) (named k (spellings (fields m ++ carried m)))
 
 -- the members in byte order
 unfoldable pub scan : Message → List ℕ → Data → Members → Outcome ⊤

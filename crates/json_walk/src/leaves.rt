@@ -1,5 +1,5 @@
 // Values without members of their own: texts, truths, names out of a list, and lists.
-ghost use Rattle.std.specs.Prelude.{◌≡◌, map};
+ghost use Rattle.std.specs.Prelude.{◌≡◌, [], map, unwrap_or, IfOk};
 ghost use Rattle.std.specs.Str.{bytes_eq};
 ghost use Rattle.std.specs.List.{position_from};
 ghost use Rattle.serde_json.specs.View.{view, items_view};
@@ -11,7 +11,7 @@ use crate::places::at_index;
 use crate::refusal::{Kind, ReadFail, refused_at};
 use serde_json::Value;
 use sqlite_items::Items;
-use std::alloc::Global;
+use std::alloc::{AllocError, Global};
 use text_base::Text;
 
 /// A text: else `WrongKind`.
@@ -133,4 +133,24 @@ pub fn read_list<R: Reader>(
 {
     let items = items_of(alloc, value, place, most)?;
     read_items(alloc, items.as_slice(), place, reader)
+}
+
+/// The list of a field, empty where the field is absent.
+pub fn or_empty<T: Drop>(alloc: Global, list: Option<Items<T>>) -> Items<T>
+    ensures { result ≡ unwrap_or list [] }
+{
+    match list {
+        Some(list) => list,
+        None => Items::new(alloc),
+    }
+}
+
+/// The text of a field, empty where the field is absent.
+pub fn text_or_empty(alloc: Global, text: Option<Text>) -> Result<Text, AllocError>
+    ensures { IfOk result (λ t. t ≡ unwrap_or text []) }
+{
+    match text {
+        Some(text) => Ok(text),
+        None => Text::of(alloc, ""),
+    }
 }

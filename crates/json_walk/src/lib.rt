@@ -14,7 +14,9 @@ mod walk;
 pub use alphabet::is_authority;
 pub use fields::{Reader, alone, field, field_place, must, optional, required};
 pub use json_tables::Message;
-pub use leaves::{choice_of, items_of, list_of, read_list, text_of, truth_of};
+pub use leaves::{
+    choice_of, items_of, list_of, or_empty, read_list, text_of, text_or_empty, truth_of,
+};
 pub use numbers::{count_of, whole_of};
 pub use places::{at_index, under};
 pub use readers::{AnyText, Int64, ListOf, Truth};

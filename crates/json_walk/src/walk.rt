@@ -8,7 +8,7 @@ ghost use Rattle.json_walk.specs.Members.{is_object, once as once_of, known as k
 
 use crate::places::under;
 use crate::refusal::{Kind, ReadFail, refused_at};
-use json_tables::{Message, Spellings, carried_of, fields_of, outside_of, unbuilt_of};
+use json_tables::{Message, Spellings, carried_of, fields_of, outside_of};
 use serde_json::{Map, Value};
 use std::alloc::{AllocError, Global};
 use text_base::Text;
@@ -75,7 +75,7 @@ fn judge(
 ) -> Result<(), ReadFail>
     ensures { Gives (λ u. u) result (judge_of message place.now (view value.now) key.now (view member.now)) }
 {
-    if let Some(name) = named(key, outside_of(message)).or(named(key, unbuilt_of(message))) {
+    if let Some(name) = named(key, outside_of(message)) {
         if member.is_null() {
             return once(alloc, place, value, key, name);
         }

@@ -1,6 +1,9 @@
-//! Worked cases of patterns, as tests: byte sets, terms, classes of bytes, texts that are read, and tables.
+//! Worked cases of patterns, as tests: byte sets, terms, those of the builders, classes of bytes, texts that are read, and
+//! tables.
 #![tactic(auto)]
 
+#[cfg(test)]
+mod builders;
 #[cfg(test)]
 mod classes;
 #[cfg(test)]

@@ -283,9 +283,17 @@ pub of_typed_route : Reads IsLawfulRoute typed_route
 unfolding typed_route
 of_typed_route p d = whatever (members_at messages.TypedRoute p d) (λ _. route_fields p d) IsLawfulRoute (λ _. of_fields p d)
 
+fields_placed : (p : List ℕ) (d : Data) → IfOk (route_fields p d) (λ r. r.place ≡ p)
+unfolding route_fields
+fields_placed p d =
+    whatever (optional p d name.name text) _ (λ r. r.place ≡ p) (λ called. whatever (required p d name.route_match route_match) _ (λ r. r.place ≡ p) (λ rule.
+    whatever (act_and_edits p d) _ (λ r. r.place ≡ p) (λ rest. refl)))
+
 -- the place of a route is the one that it is read at
 pub route_placed : (p : List ℕ) (d : Data) → IfOk (route p d) (λ r. r.place ≡ p)
-unfolding route route_fields
-route_placed p d =
-    whatever (members_at messages.Route p d) _ (λ r. r.place ≡ p) (λ _. whatever (optional p d name.name text) _ (λ r. r.place ≡ p) (λ called. whatever (required p d name.route_match route_match) _ (λ r. r.place ≡ p) (λ rule.
-    whatever (act_and_edits p d) _ (λ r. r.place ≡ p) (λ rest. refl))))
+unfolding route
+route_placed p d = whatever (members_at messages.Route p d) (λ _. route_fields p d) (λ r. r.place ≡ p) (λ _. fields_placed p d)
+
+pub typed_route_placed : (p : List ℕ) (d : Data) → IfOk (typed_route p d) (λ r. r.place ≡ p)
+unfolding typed_route
+typed_route_placed p d = whatever (members_at messages.TypedRoute p d) (λ _. route_fields p d) (λ r. r.place ≡ p) (λ _. fields_placed p d)

@@ -1,5 +1,5 @@
 // Edits of headers: the header lists of a level.
-ghost use Rattle.std.specs.Prelude.{◌≡◌, [], map, option_map, unwrap_or, if◌then◌else◌, IfOk, None};
+ghost use Rattle.std.specs.Prelude.{◌≡◌, map, option_map, if◌then◌else◌, None};
 ghost use Rattle.serde_json.specs.View.{view};
 ghost use Rattle.serde_json.specs.Find.{get};
 ghost use Rattle.json_tables.specs.declared.message.Message.TheVariants as messages;
@@ -12,24 +12,15 @@ ghost use Rattle.read_action.specs.Edits.{header_value, append_actions, how_of a
 use cfg_types::{Addition, EditPair, Edits, How};
 use json_walk::{
     Message, Names, ReadFail, Reader, Text, Truth, alone, choice_of, members, optional, read_list,
-    required, under,
+    required, text_or_empty, under,
 };
 use read_match::{EditName, ValueText};
 use serde_json::Value;
 use sqlite_items::Items;
-use std::alloc::{AllocError, Global};
+use std::alloc::Global;
 
 /// The most elements of a header list.
 const LIST_LIMIT: u32 = 1_000;
-
-pub fn or_empty(alloc: Global, text: Option<Text>) -> Result<Text, AllocError>
-    ensures { IfOk result (λ t. t ≡ unwrap_or text []) }
-{
-    match text {
-        Some(text) => Ok(text),
-        None => Text::of(alloc, ""),
-    }
-}
 
 /// A HeaderValue: the name of a header and its value, empty by default.
 #[derive(Drop)]
@@ -46,7 +37,7 @@ impl Reader for HeaderValue {
         let names = members(alloc, value, place, M)?;
         let key = required(alloc, value, place, &names, M, 0, &EditName)?;
         let value = optional(alloc, value, place, &names, M, 1, &ValueText)?;
-        let value = or_empty(alloc, value)?;
+        let value = text_or_empty(alloc, value)?;
         Ok((key, value))
     }
 }

@@ -7,9 +7,10 @@ ghost use Rattle.json_walk.specs.Members.{names_of};
 ghost use Rattle.read_action.specs.Forwards.{target as target_of, targets as targets_of, host_change as host_change_of, host_changes as host_changes_of, changes as changes_of, one_target as one_target_of, route_action};
 
 use crate::clusters::WeightedCluster;
-use crate::edits::or_empty;
 use cfg_types::{Forward, HostChange, Share, Target};
-use json_walk::{Message, Names, ReadFail, Reader, Text, alone, members, must, optional};
+use json_walk::{
+    Message, Names, ReadFail, Reader, Text, alone, members, must, optional, text_or_empty,
+};
 use read_match::{FieldName, MatcherText, SomeName, TargetText};
 use serde_json::Value;
 use sqlite_items::Items;
@@ -103,7 +104,7 @@ fn changes(
         3,
         &TargetText,
     )?;
-    let rewrite = or_empty(alloc, rewrite)?;
+    let rewrite = text_or_empty(alloc, rewrite)?;
     let host = host_changes(alloc, value, place, names)?;
     Ok((rewrite, host))
 }

@@ -7,11 +7,10 @@ ghost use Rattle.json_walk.specs.Members.{names_of};
 ghost use Rattle.json_walk.specs.Numbers.{count};
 ghost use Rattle.read_action.specs.Redirects.{scheme as scheme_of, schemes as schemes_of, origin as origin_of, path_to as path_to_of, paths_to as paths_to_of, response_codes, code_of as code_at, response_code, one_of_each as one_of_each_of, redirect_action, direct_response_action};
 
-use crate::edits::or_empty;
 use cfg_types::{PathTo, Redirect};
 use json_walk::{
     Message, Names, ReadFail, Reader, Text, Truth, alone, choice_of, count_of, members, optional,
-    required,
+    required, text_or_empty,
 };
 use read_match::{MatcherText, TargetText};
 use serde_json::Value;
@@ -24,7 +23,7 @@ fn scheme(alloc: Global, https: Option<bool>, other: Option<Text>) -> Result<Tex
     match https {
         Some(true) => Text::of(alloc, "https"),
         Some(false) => Text::of(alloc, ""),
-        None => or_empty(alloc, other),
+        None => text_or_empty(alloc, other),
     }
 }
 
@@ -70,7 +69,7 @@ fn origin(
     let scheme = schemes(alloc, value, place, names)?;
     let host = optional(alloc, value, place, names, M, 2, &MatcherText)?;
     let port = optional(alloc, value, place, names, M, 3, &Port)?;
-    let host = or_empty(alloc, host)?;
+    let host = text_or_empty(alloc, host)?;
     Ok((scheme, host, port.unwrap_or(0)))
 }
 

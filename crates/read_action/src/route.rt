@@ -6,12 +6,13 @@ ghost use Rattle.json_walk.specs.Outcome.{Gives};
 ghost use Rattle.json_walk.specs.Members.{names_of};
 ghost use Rattle.read_action.specs.Routes.{act_form as act_form_of, acts as acts_of, one_act as one_act_of, act_and_edits as act_and_edits_of, route_fields as route_fields_of, route, typed_route, route_as};
 
-use crate::edits::{or_empty, read_edits};
+use crate::edits::read_edits;
 use crate::forward::RouteAction;
 use crate::redirect::{DirectResponseAction, RedirectAction};
 use cfg_types::{Act, EditPair, Forward, Redirect, Route};
 use json_walk::{
     AnyText, Message, Names, ReadFail, Reader, Text, alone, members, must, optional, required,
+    text_or_empty,
 };
 use read_match::RouteMatcher;
 use serde_json::Value;
@@ -97,7 +98,7 @@ fn route_fields(
     const M: Message = Message::Route;
     let own = place.copy(alloc)?;
     let name = optional(alloc, value, place, names, M, 0, &AnyText)?;
-    let name = or_empty(alloc, name)?;
+    let name = text_or_empty(alloc, name)?;
     let rule = required(alloc, value, place, names, M, 1, &RouteMatcher)?;
     let (act, edits) = act_and_edits(alloc, value, place, names)?;
     Ok(Route {

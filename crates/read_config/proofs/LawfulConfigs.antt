@@ -1,10 +1,10 @@
 -- A configuration that is read is lawful.
-use Rattle.std.proofs.Common.{◌≡◌, ◌≤◌, ℕ, ◌+◌, List, [], ◌∷◌, ◌++◌, length, map, Bool, true, false, Option, Some, None, Result, Ok, Err, IfOk, refl, sym, subst, arith, nat_le, lit<}
+use Rattle.std.proofs.Common.{◌≡◌, ◌≤◌, ℕ, ◌+◌, List, [], ◌∷◌, length, Bool, true, false, Option, Some, None, Result, Ok, Err, IfOk, IfSome, refl, subst, arith, nat_le}
 use Rattle.std.proofs.lemmas.Bool.Decides.{nat_tests}
 use Rattle.std.proofs.lemmas.List.Concat.{length-flat_map}
 use Rattle.std.proofs.lemmas.List.Elements.{All-nil}
-use Rattle.std.specs.List.{AllZip, enumerate_from}
-use Rattle.std.specs.Prelude.{All, Contains, flat_map, unwrap_or, codes}
+use Rattle.std.specs.List.{enumerate_from}
+use Rattle.std.specs.Prelude.{All, flat_map, unwrap_or, codes}
 use Rattle.serde_json.specs.Data.{Data, Items, no_items, item}
 use Rattle.json_tables.specs.declared.message.Message.TheVariants as messages
 use Rattle.json_tables.specs.Names as name
@@ -18,17 +18,24 @@ use Rattle.json_walk.specs.Fields.{Reading, field, optional, required}
 use Rattle.json_walk.specs.Leaves.{text, list, items, list_of}
 use Rattle.json_walk.proofs.ReadFacts.{after, whatever, where_true, weaker, of_outcome, of_list}
 use Rattle.cfg_types.specs.Lawful.{IsLawful, IsLawfulHost, IsLawfulPair}
-use Rattle.cfg_types.specs.Order.{routes_of_hosts, host_routes}
-use Rattle.cfg_types.specs.Places.{Places, element, member, list_places, body_places}
+use Rattle.cfg_types.specs.Order.{routes_of_hosts, host_routes, body_routes, tree_routes}
+use Rattle.cfg_types.specs.Places.{Places, element, member, list_places, body_places, tree_places}
 use Rattle.cfg_types.specs.declared.configs.Config.{Config}
+use Rattle.cfg_types.specs.declared.configs.Body.{Body}
+use Rattle.cfg_types.specs.declared.configs.Body.TheVariants as body
+use Rattle.cfg_types.specs.declared.trees.Tree.{Tree}
+use Rattle.read_tree.specs.Trees.{matcher}
 use Rattle.cfg_types.specs.declared.configs.Host.{Host}
 use Rattle.cfg_types.specs.declared.routes.Route.{Route}
 use Rattle.read_match.specs.Kinds.{some_name}
 use Rattle.read_action.specs.Routes.{route}
 use Rattle.read_action.specs.Edits.{edits}
-use Rattle.read_action.proofs.LawfulRoutes.{of_edits, route_placed}
+use Rattle.read_action.proofs.LawfulRoutes.{of_edits}
+use Rattle.read_tree.proofs.LawfulTrees.{tree_placed}
+use Rattle.read_tree.proofs.PlacedRoutes.{Placed, placed_both, list_placed}
+use Rattle.read_tree.proofs.ReadAt.{of_maybe_at}
 use Rattle.read_config.specs.Domains.{domain}
-use Rattle.read_config.specs.Hosts.{require_tls, virtual_cluster, beside_domains, some_domain, virtual_host}
+use Rattle.read_config.specs.Hosts.{require_tls, virtual_cluster, Beside, beside_domains, some_domain, few_in_tree, body_form, virtual_host}
 use Rattle.read_config.specs.Repeats.{first_repeat}
 use Rattle.read_config.specs.Rules.{is_own, domain_count, few_domains, few_routes, is_once, keeps_parameters, whole_rules}
 use Rattle.read_config.specs.Configs.{switches, route_configuration, config_of}
@@ -37,31 +44,6 @@ use Rattle.read_config.proofs.Apart.{are_apart}
 use Rattle.read_config.proofs.LawfulHosts.{of_host}
 
 -- ---- places
-
-abbrev At : Route → List (List ℕ) → Type 0
-At r ps = Contains ps r.place
-
--- each route has its place
-abbrev Placed : List Route → List Places → Type 0
-Placed rs ps = AllZip At rs ps
-
--- the routes of a list, from number i on
-abbrev places_from : List ℕ → ℕ → List Route → List Places
-places_from at i rs = map (λ r. element at r.0 ∷ []) (enumerate_from i rs)
-
-here : (ps p : List ℕ) → p ≡ ps → Contains (ps ∷ []) p
-here ps p e = (0, lit< tt, sym e)
-
-routes_placed : (p : List ℕ) (i : ℕ) (ds : Items) → IfOk (items p route i ds) (λ rs. Placed rs (places_from p i rs))
-unfolding items
-routes_placed p i no_items = tt
-routes_placed p i (item d ds) =
-    after (route (at_index p i) d) _ (λ r. r.place ≡ at_index p i) (λ rs. Placed rs (places_from p i rs)) (route_placed (at_index p i) d) (λ r e.
-    after (items p route (i + 1) ds) _ (λ rs. Placed rs (places_from p (i + 1) rs)) (λ rs. Placed rs (places_from p i rs)) (routes_placed p (i + 1) ds) (λ rs rest. (here (element p i) r.place e, rest)))
-
-list_placed : (most : Option ℕ) (p : List ℕ) (d : Data) → IfOk (list_of most route p d) (λ rs. Placed rs (list_places p rs))
-unfolding list_of
-list_placed most p d = whatever (list most p d) _ (λ rs. Placed rs (list_places p rs)) (λ ds. routes_placed p 0 ds)
 
 abbrev may_be : {A : Type 0} → List ℕ → Reading A → Option Data → Outcome (Option A)
 may_be at read None = Ok None
@@ -84,23 +66,46 @@ routes_under p = refl
 abbrev ListedAt : List ℕ → List Route → Type 0
 ListedAt p rs = Placed rs (list_places (member p (codes "routes")) rs)
 
+-- the routes of a tree at a place
+abbrev GrownAt : List ℕ → Tree → Type 0
+GrownAt p t = Placed (tree_routes t) (tree_places t p)
+
+-- where the routes of what stands beside the domains are
+pub record BesideAt (p : List ℕ) (b : Beside) : Type 0 where
+  pub routes : ListedAt p b.routes
+  pub tree : IfSome b.tree (GrownAt (member p (codes "matcher")))
+
+grown_placed : (p : List ℕ) (d : Data) → IfOk (optional p d name.matcher (matcher 12)) (λ o. IfSome o (GrownAt (member p (codes "matcher"))))
+unfolding name.matcher
+grown_placed p d = of_maybe_at p d name.matcher (matcher 12) GrownAt tree_placed
+
+beside_placed : (p : List ℕ) (d : Data) → IfOk (beside_domains p d) (BesideAt p)
+unfolding beside_domains
+beside_placed p d =
+    after (optional p d name.routes (list_of (Some 1000) route)) _ (λ o. ListedAt p (unwrap_or o [])) (BesideAt p)
+    (optional_at p d name.routes (list_of (Some 1000) route) [] (ListedAt p) tt (λ e. subst (λ (at : List ℕ). IfOk (list_of (Some 1000) route (under p name.routes) e) (λ rs. Placed rs (list_places at rs))) (routes_under p) (list_placed (Some 1000) (under p name.routes) e)))
+    (λ routes placed. after (optional p d name.matcher (matcher 12)) _ (λ o. IfSome o (GrownAt (member p (codes "matcher")))) (BesideAt p) (grown_placed p d) (λ tree at. whatever (optional p d name.require_tls require_tls) _ (BesideAt p) (λ first. whatever (optional p d name.virtual_clusters (list_of None virtual_cluster)) _ (BesideAt p) (λ clusters. whatever (edits p d) _ (BesideAt p) (λ changes. record { routes = placed; tree = at })))))
+
+abbrev BodyAt : List ℕ → Body → Type 0
+BodyAt p b = Placed (body_routes b) (body_places b p)
+
+few_placed : (p : List ℕ) (t : Tree) → GrownAt (member p (codes "matcher")) t → IfOk (few_in_tree p t) (BodyAt p)
+unfolding few_in_tree
+few_placed p t at = where_true (nat_le (length (tree_routes t)) 1000) (body.Tree t) (under p name.matcher) TooMany (BodyAt p) (λ e. at)
+
+body_placed : (p : List ℕ) (rs : List Route) (o : Option Tree) → ListedAt p rs → IfSome o (GrownAt (member p (codes "matcher"))) → IfOk (body_form p rs o) (BodyAt p)
+unfolding body_form
+body_placed p [] None listed grown = listed
+body_placed p (r ∷ rs) None listed grown = listed
+body_placed p [] (Some t) listed grown = few_placed p t grown
+body_placed p (r ∷ rs) (Some t) listed grown = tt
+
 host_placed : (p : List ℕ) (d : Data) → IfOk (virtual_host p d) (λ h. Placed (host_routes h) (body_places h.body p))
-unfolding virtual_host beside_domains
+unfolding virtual_host
 host_placed p d =
     whatever (members_at messages.VirtualHost p d) _ _ (λ _. whatever (required p d name.name some_name) _ _ (λ called. whatever (required p d name.domains (list_of None domain)) _ _ (λ names.
-    after (beside_domains p d) _ (λ b. ListedAt p b.0) (λ h. Placed (host_routes h) (body_places h.body p)) beside_placed (λ rest b. whatever (some_domain p names) _ _ (λ _. b)))))
-  where
-    beside_placed : IfOk (beside_domains p d) (λ b. ListedAt p b.0)
-    beside_placed =
-        after (optional p d name.routes (list_of (Some 1000) route)) _ (λ o. ListedAt p (unwrap_or o [])) (λ b. ListedAt p b.0)
-        (optional_at p d name.routes (list_of (Some 1000) route) [] (ListedAt p) tt (λ e. subst (λ (at : List ℕ). IfOk (list_of (Some 1000) route (under p name.routes) e) (λ rs. Placed rs (list_places at rs))) (routes_under p) (list_placed (Some 1000) (under p name.routes) e)))
-        (λ routes placed. whatever (optional p d name.require_tls require_tls) _ _ (λ first. whatever (optional p d name.virtual_clusters (list_of None virtual_cluster)) _ _ (λ clusters. whatever (edits p d) _ _ (λ changes. placed))))
-
-zip-append : (rs ts : List Route) (ps qs : List Places) → Placed rs ps → Placed ts qs → Placed (rs ++ ts) (ps ++ qs)
-zip-append [] ts [] qs a b = b
-zip-append [] ts (p ∷ ps) qs a b = absurd a
-zip-append (r ∷ rs) ts [] qs a b = absurd a
-zip-append (r ∷ rs) ts (p ∷ ps) qs a b = (a.0, zip-append rs ts ps qs a.1 b)
+    after (beside_domains p d) _ (BesideAt p) (λ h. Placed (host_routes h) (body_places h.body p)) (beside_placed p d) (λ rest b. whatever (some_domain p names) _ _ (λ _.
+    after (body_form p rest.routes rest.tree) _ (BodyAt p) (λ h. Placed (host_routes h) (body_places h.body p)) (body_placed p rest.routes rest.tree b.routes b.tree) (λ own placed. placed))))))
 
 -- the places of the routes of hosts, from number i on
 abbrev host_places : List ℕ → ℕ → List Host → List Places
@@ -112,7 +117,7 @@ hosts_placed p i no_items = tt
 hosts_placed p i (item d ds) =
     after (virtual_host (at_index p i) d) _ (λ h. Placed (host_routes h) (body_places h.body (at_index p i))) (λ hs. Placed (routes_of_hosts hs) (host_places p i hs)) (host_placed (at_index p i) d) (λ h one.
     after (items p virtual_host (i + 1) ds) _ (λ hs. Placed (routes_of_hosts hs) (host_places p (i + 1) hs)) (λ hs. Placed (routes_of_hosts hs) (host_places p i hs)) (hosts_placed p (i + 1) ds) (λ hs rest.
-    zip-append (host_routes h) (routes_of_hosts hs) (body_places h.body (element p i)) (host_places p (i + 1) hs) one rest))
+    placed_both (host_routes h) (routes_of_hosts hs) (body_places h.body (element p i)) (host_places p (i + 1) hs) one rest))
 
 -- ---- all hosts together
 

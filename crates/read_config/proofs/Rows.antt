@@ -1,15 +1,17 @@
 -- Cases of reading configurations, by computation.
 use Rattle.std.proofs.Common.{◌≡◌, ℕ, zero, suc, List, [], ◌∷◌, true, false, Ok, Some, None, refl}
 use Rattle.std.specs.Prelude.{codes, replicate}
-use Rattle.serde_json.specs.Data.{Data, Items, null, boolean, number, unsigned, string, array, object, no_items, item, no_members, member}
+use Rattle.serde_json.specs.Data.{Items, null, boolean, string, array, object, no_items, item, no_members, member}
 use Rattle.json_tables.specs.Names.{type_url, name, virtual_hosts, request_headers_to_add, request_headers_to_remove, response_headers_to_add, response_headers_to_remove, most_specific_header_mutations_wins, ignore_port_in_host_matching, ignore_path_parameters_in_path_matching, vhds, cluster_specifier_plugins, domains, routes, matcher, require_tls as tls_name, virtual_clusters, headers}
-use Rattle.json_walk.specs.declared.refusal.Kind.TheVariants.{WrongKind, Missing, OutOfRange, Duplicate, TooMany, BadText, NotInProfile}
+use Rattle.json_walk.specs.declared.refusal.Kind.TheVariants.{WrongKind, Missing, Conflict, OutOfRange, Duplicate, TooMany, BadText, NotInProfile}
 use Rattle.json_walk.specs.Outcome.{offence}
 use Rattle.json_walk.specs.Places.{under, at_index}
 use Rattle.json_walk.specs.Members.{members_at, scan_object, scan, judge, allowed, known, once}
 use Rattle.json_walk.specs.Fields.{field, optional, required}
 use Rattle.json_walk.specs.Leaves.{text, truth, choice, list, list_of, items}
 use Rattle.cfg_types.specs.declared.changes.EditPair.{EditPair}
+use Rattle.cfg_types.specs.declared.routes.Route.{Route}
+use Rattle.cfg_types.specs.declared.trees.Tree.{Tree}
 use Rattle.cfg_types.specs.declared.configs.Host.{Host}
 use Rattle.cfg_types.specs.declared.configs.Body.TheVariants as body
 use Rattle.cfg_types.specs.declared.configs.Domain.{Domain}
@@ -18,7 +20,7 @@ use Rattle.cfg_types.specs.declared.configs.Tls.TheVariants as tls
 use Rattle.read_match.specs.Kinds.{some_name}
 use Rattle.read_action.specs.Edits.{edits, listed}
 use Rattle.read_config.specs.Domains.{name as domain_name, any_or_suffix, prefix_or_exact, by_star, domain_from, domain}
-use Rattle.read_config.specs.Hosts.{virtual_cluster, tls_names, require_tls, beside_domains, some_domain, virtual_host}
+use Rattle.read_config.specs.Hosts.{virtual_cluster, tls_names, require_tls, beside_domains, some_domain, virtual_host, body_form}
 use Rattle.read_config.specs.Repeats.{repeat_after, first_repeat}
 use Rattle.read_config.specs.Rules.{own_type, is_own, few_domains, few_routes, domain_place, is_once, keeps_parameters, whole_rules}
 use Rattle.read_config.specs.Configs.{switches, route_configuration}
@@ -98,7 +100,7 @@ virtual_cluster_of_all = refl
 
 host_of_all : virtual_host [] (object (member (codes "domains") (array (item (string (codes "*")) no_items)) (member (codes "name") (string (codes "h")) (member (codes "requireTls") (string (codes "ALL")) no_members))))
     ≡ Ok (record { name = codes "h"; domains = form.Any ∷ []; body = body.List []; tls = tls.All; clusters = []; edits = no_edits })
-unfolding virtual_host beside_domains some_domain some_name domain domain_from by_star any_or_suffix require_tls tls_names choice edits listed text list list_of items members_at scan_object scan judge allowed known once field optional required name domains routes matcher tls_name virtual_clusters request_headers_to_add request_headers_to_remove response_headers_to_add response_headers_to_remove
+unfolding virtual_host beside_domains body_form some_domain some_name domain domain_from by_star any_or_suffix require_tls tls_names choice edits listed text list list_of items members_at scan_object scan judge allowed known once field optional required name domains routes matcher tls_name virtual_clusters request_headers_to_add request_headers_to_remove response_headers_to_add response_headers_to_remove
 host_of_all = refl
 
 -- the fields go in the order of the table, and the rule comes behind them
@@ -111,12 +113,17 @@ unfolding virtual_host beside_domains some_name text list list_of items members_
 routes_before_no_domain = refl
 
 no_domain_at_all : virtual_host (codes "/h") (object (member (codes "domains") (array no_items) (member (codes "name") (string (codes "h")) no_members))) ≡ offence (codes "/h/domains") Missing
-unfolding virtual_host beside_domains some_domain some_name edits listed text list list_of items members_at scan_object scan judge allowed known once field optional required name domains routes matcher tls_name virtual_clusters request_headers_to_add request_headers_to_remove response_headers_to_add response_headers_to_remove
+unfolding virtual_host beside_domains body_form some_domain some_name edits listed text list list_of items members_at scan_object scan judge allowed known once field optional required name domains routes matcher tls_name virtual_clusters request_headers_to_add request_headers_to_remove response_headers_to_add response_headers_to_remove
 no_domain_at_all = refl
 
 routes_past_a_thousand : virtual_host (codes "/h") (object (member (codes "domains") (array no_items) (member (codes "name") (string (codes "h")) (member (codes "routes") (array (nulls 1001)) no_members)))) ≡ offence (codes "/h/routes") TooMany
 unfolding virtual_host beside_domains some_name text list list_of items members_at scan_object scan judge allowed known once field optional required name domains routes matcher tls_name virtual_clusters
 routes_past_a_thousand = refl
+
+-- routes stand in a list or in a tree, not in both
+routes_beside_a_tree : (r : Route) (t : Tree) → body_form (codes "/h") (r ∷ []) (Some t) ≡ offence (codes "/h/matcher") Conflict
+unfolding body_form matcher
+routes_beside_a_tree r t = refl
 
 -- ---- the first domain that stands twice
 

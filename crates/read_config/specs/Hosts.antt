@@ -1,14 +1,16 @@
 -- VirtualCluster and VirtualHost, each as its row of the table: the fields in order, then the rules.
-use Rattle.std.specs.Prelude.{ℕ, List, [], ◌∷◌, ◌==◌, if◌then◌else◌, codes, Some, None, unwrap_or, Ok, ⊤}
+use Rattle.std.specs.Prelude.{ℕ, List, [], ◌∷◌, ◌==◌, if◌then◌else◌, codes, length, nat_le, Option, Some, None, unwrap_or, Ok, ⊤}
 use Rattle.json_tables.specs.declared.message.Message.TheVariants as messages
 use Rattle.json_tables.specs.Names as name
-use Rattle.json_walk.specs.declared.refusal.Kind.TheVariants.{Missing}
+use Rattle.json_walk.specs.declared.refusal.Kind.TheVariants.{Missing, Conflict, TooMany}
 use Rattle.json_walk.specs.Outcome.{Outcome, offence, ◌>>=◌}
 use Rattle.json_walk.specs.Places.{under}
 use Rattle.json_walk.specs.Members.{members_at}
 use Rattle.json_walk.specs.Fields.{Reading, optional, required}
 use Rattle.json_walk.specs.Leaves.{choice, list_of}
+use Rattle.cfg_types.specs.Order.{tree_routes}
 use Rattle.cfg_types.specs.declared.configs.Host.{Host}
+use Rattle.cfg_types.specs.declared.configs.Body.{Body}
 use Rattle.cfg_types.specs.declared.configs.Body.TheVariants as body
 use Rattle.cfg_types.specs.declared.configs.Domain.{Domain}
 use Rattle.cfg_types.specs.declared.configs.Tls.{Tls}
@@ -16,10 +18,12 @@ use Rattle.cfg_types.specs.declared.configs.Tls.TheVariants as tls
 use Rattle.cfg_types.specs.declared.configs.VirtualCluster.{VirtualCluster}
 use Rattle.cfg_types.specs.declared.changes.EditPair.{EditPair}
 use Rattle.cfg_types.specs.declared.routes.Route.{Route}
+use Rattle.cfg_types.specs.declared.trees.Tree.{Tree}
 use Rattle.read_match.specs.Kinds.{some_name}
 use Rattle.read_match.specs.Headers.{header_matcher}
 use Rattle.read_action.specs.Routes.{route}
 use Rattle.read_action.specs.Edits.{edits}
+use Rattle.read_tree.specs.Trees.{matcher}
 use Rattle.read_config.specs.Domains.{domain}
 
 unfoldable pub virtual_cluster : Reading VirtualCluster
@@ -41,15 +45,32 @@ require_tls p d = do
   k ← choice tls_names p d
   Ok (tls_of k)
 
--- What a host has beside its name and its domains: routes, require_tls, virtual_clusters and the header lists. Its `matcher`
--- isn't built yet, so a host whose matcher isn't null is refused before.
-unfoldable pub beside_domains : Reading (List Route × Tls × List VirtualCluster × EditPair)
+-- what a host has beside its name and its domains
+pub record Beside : Type 0 where
+  pub routes : List Route
+  pub tree : Option Tree
+  pub tls : Tls
+  pub clusters : List VirtualCluster
+  pub edits : EditPair
+
+unfoldable pub beside_domains : Reading Beside
 beside_domains p d = do
   routes ← optional p d name.routes (list_of (Some 1000) route)
+  tree ← optional p d name.matcher (matcher 12)
   first ← optional p d name.require_tls require_tls
   clusters ← optional p d name.virtual_clusters (list_of None virtual_cluster)
   changes ← edits p d
-  Ok (unwrap_or routes [], unwrap_or first tls.No, unwrap_or clusters [], changes)
+  Ok (record { routes = unwrap_or routes []; tree = tree; tls = unwrap_or first tls.No; clusters = unwrap_or clusters []; edits = changes })
+
+-- a tree of at most 1,000 routes
+unfoldable pub few_in_tree : List ℕ → Tree → Outcome Body
+few_in_tree p t = if nat_le (length (tree_routes t)) 1000 then Ok (body.Tree t) else offence (under p name.matcher) TooMany
+
+-- routes in a list or in a tree, not in both
+unfoldable pub body_form : List ℕ → List Route → Option Tree → Outcome Body
+body_form p rs None = Ok (body.List rs)
+body_form p [] (Some t) = few_in_tree p t
+body_form p (r ∷ rs) (Some t) = offence (under p name.matcher) Conflict
 
 -- a host has one domain or more
 unfoldable pub some_domain : List ℕ → List Domain → Outcome ⊤
@@ -63,4 +84,5 @@ virtual_host p d = do
   names ← required p d name.domains (list_of None domain)
   rest ← beside_domains p d
   _ ← some_domain p names
-  Ok (record { name = called; domains = names; body = body.List rest.0; tls = rest.1; clusters = rest.2; edits = rest.3 })
+  own ← body_form p rest.routes rest.tree
+  Ok (record { name = called; domains = names; body = own; tls = rest.tls; clusters = rest.clusters; edits = rest.edits })

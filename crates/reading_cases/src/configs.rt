@@ -3,6 +3,7 @@ use crate::action_rows::ACTION_TABLES;
 use crate::host_rows::HOST_TABLES;
 use crate::match_rows::MATCH_TABLES;
 use crate::told::{Part, part_told};
+use crate::trees::TREE_TABLES;
 use json_walk::{ReadFail, Refusal};
 use read_config::read_config;
 use std::alloc::Global;
@@ -62,7 +63,7 @@ fn all_hold(alloc: Global, table: Table) -> Result<(), Fail> {
 
 #[test]
 fn configurations_are_read_or_have_an_offence(rt: HostRuntime) -> Result<(), Fail> {
-    for tables in [HOST_TABLES, MATCH_TABLES, ACTION_TABLES] {
+    for tables in [HOST_TABLES, MATCH_TABLES, ACTION_TABLES, TREE_TABLES] {
         for table in tables {
             all_hold(rt.alloc(), *table)?;
         }

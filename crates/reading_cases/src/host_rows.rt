@@ -31,9 +31,12 @@ const HOSTS: &str = r#"7 => WrongKind /0
 {"name":"h","domains":["a","b*c"]} => BadText /0/domains/1
 {"name":"h","domains":[""]} => BadText /0/domains/0
 {"name":"h","domains":["*"],"require_tls":"SOME"} => OutOfRange /0/require_tls
-{"name":"h","domains":["*"],"require_tls":"NONE","virtual_clusters":[]} => NotInProfile /0/virtual_clusters
+{"name":"h","domains":["*"],"require_tls":"NONE","virtual_clusters":[]} => name=h tls=No routes=0 any
+{"name":"h","domains":["*"],"virtual_clusters":[{"name":"","headers":[]}]} => BadText /0/virtual_clusters/0/name
+{"name":"h","domains":["*"],"virtualClusters":[{"name":"v","headers":[]},{"name":"v"}]} => Missing /0/virtual_clusters/1/headers
+{"name":"h","domains":["*"],"matcher":{},"virtual_clusters":1} => WrongKind /0/virtual_clusters
 {"name":"h","domains":["*"],"require_tls":"ALL"} => name=h tls=All routes=0 any
-{"name":"h","domains":["*"],"matcher":{}} => NotInProfile /0/matcher
+{"name":"h","domains":["*"],"matcher":[]} => WrongKind /0/matcher
 {"name":"h","domains":["A.com"]},{"name":"g","domains":["a.com"]} => Duplicate /1/domains/0
 {"name":"h","domains":["*.b","b","*.B"]},{"name":"g","domains":["b"]} => Duplicate /0/domains/2
 {"name":"h","domains":["*.b","b.*","b","*"]},{"name":"h","domains":["B.c"]} => name=h tls=No routes=0 suffix .b prefix b. exact b any

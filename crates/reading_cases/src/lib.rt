@@ -21,3 +21,5 @@ mod rules_told;
 mod test_files;
 #[cfg(test)]
 mod told;
+#[cfg(test)]
+mod trees;

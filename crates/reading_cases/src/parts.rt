@@ -2,7 +2,7 @@
 use crate::configs::refusal_told;
 use crate::told::{edits_told, route_told};
 use json_tables::{
-    Message, camel_is_met_first, carried_of, fields_of, outside_of, spellings_differ, unbuilt_of,
+    Message, camel_is_met_first, carried_of, fields_of, outside_of, spellings_differ,
 };
 use json_walk::{ReadFail, Reader, items_of, list_of, members, object_of, read_value};
 use read_action::{TypedRoute, read_edits};
@@ -28,8 +28,8 @@ fn tables_have_both_spellings(rt: HostRuntime) {
         ),
         (outside_of(Message::RouteMatch), 6, ("cookies", "cookies")),
         (
-            unbuilt_of(Message::Validate),
-            3,
+            fields_of(Message::Validate),
+            8,
             ("response_header_matches", "responseHeaderMatches"),
         ),
     ];

@@ -23,7 +23,7 @@ const FILES: &str = r#"{"tests": => Syntax
 {"tests":[]} => no test"#;
 
 const INPUTS: &str =
-    r#"{"authority":"x.com","path":"/"} => name=t GET x.com / https=false internal=false random=0 runtime= headers; back; cluster=a host=absent authority=absent path=absent url=absent
+    r#"{"authority":"x.com","path":"/"} => name=t GET x.com / https=false internal=false random=0 runtime= headers; back; cluster=a virtual=absent host=absent authority=absent path=absent url=absent rules=0 and 0
 7 => WrongKind
 {"path":"/"} => Missing /authority
 {"authority":"","path":"x","method":""} => BadText /authority
@@ -44,16 +44,17 @@ const EXPECTATIONS: &str = r#"{} => Missing
 {"cluster_name":null} => Missing
 [] => WrongKind
 {"virtual_host_name":1} => WrongKind /virtual_host_name
-{"virtualClusterName":"v"} => NotInProfile /virtual_cluster_name
-{"cluster_name":1,"virtual_cluster_name":"x"} => NotInProfile /virtual_cluster_name
+{"virtualClusterName":1} => WrongKind /virtual_cluster_name
+{"cluster_name":1,"virtual_cluster_name":2} => WrongKind /cluster_name
 {"path_redirect":["x"]} => WrongKind /path_redirect
-{"requestHeaderMatches":[]} => NotInProfile /request_header_matches
-{"responseHeaderMatches":[]} => NotInProfile /response_header_matches
+{"requestHeaderMatches":[],"response_header_matches":[]} => Missing
+{"request_header_matches":[{"name":"a"},{}],"response_header_matches":[1]} => Missing /request_header_matches/1/name
+{"response_header_matches":[{"name":"a b"}]} => BadText /response_header_matches/0/name
 {"cluster":"a"} => UnknownField /cluster
 {"clusterName":null,"cluster_name":"a"} => Conflict /cluster_name"#;
 
 const FULL: &str =
-    r#"{"testName":"é","input":{"authority":"x.com:80","path":"/a?b","method":"PUT","internal":true,"ssl":true,"randomValue":"18446744073709551615","runtime":"k","additional_request_headers":[{"key":"X-A","value":"1 2"},{"key":"x-b"}],"additionalResponseHeaders":[{"value":"","key":"Server"}]},"validate":{"cluster_name":"","virtualHostName":"h","hostRewrite":null,"path_rewrite":"/a","pathRedirect":"u"}} => name=é PUT x.com:80 /a?b https=true internal=true random=18446744073709551615 runtime=k headers x-a:1 2 x-b:; back server:; cluster= host=h authority=absent path=/a url=u"#;
+    r#"{"testName":"é","input":{"authority":"x.com:80","path":"/a?b","method":"PUT","internal":true,"ssl":true,"randomValue":"18446744073709551615","runtime":"k","additional_request_headers":[{"key":"X-A","value":"1 2"},{"key":"x-b"}],"additionalResponseHeaders":[{"value":"","key":"Server"}]},"validate":{"cluster_name":"","virtualHostName":"h","hostRewrite":null,"path_rewrite":"/a","pathRedirect":"u","virtual_cluster_name":"v","request_header_matches":[{"name":"a"},{"name":"b"}],"responseHeaderMatches":[{"name":"c"}]}} => name=é PUT x.com:80 /a?b https=true internal=true random=18446744073709551615 runtime=k headers x-a:1 2 x-b:; back server:; cluster= virtual=v host=h authority=absent path=/a url=u rules=2 and 1"#;
 
 /// Rows `TEXT => OUTCOME`. TEXT stands between the two texts of a test file. OUTCOME tells the first test, or the kind of
 /// the offence with its place below the one that is named.
@@ -118,12 +119,15 @@ fn or_absent(expected: &Option<Text>) -> &str {
 
 fn expectation_told(alloc: Global, expect: &Expect) -> Result<String, OutOfMemory> {
     format!(in alloc;
-        "cluster={} host={} authority={} path={} url={}",
+        "cluster={} virtual={} host={} authority={} path={} url={} rules={} and {}",
         or_absent(&expect.cluster_name),
+        or_absent(&expect.virtual_cluster_name),
         or_absent(&expect.virtual_host_name),
         or_absent(&expect.host_rewrite),
         or_absent(&expect.path_rewrite),
-        or_absent(&expect.path_redirect)
+        or_absent(&expect.path_redirect),
+        expect.request_header_matches.len(),
+        expect.response_header_matches.len()
     )
 }
 

@@ -8,5 +8,6 @@ mod query;
 mod request;
 mod search;
 
+pub use joined::{Joined, join};
 pub use request::Request;
 pub use text_base::{BadRequest, Field, Heads, OutOfMemory, Parts, Text};

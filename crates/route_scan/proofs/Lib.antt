@@ -1,4 +1,4 @@
 pub mod Accepted
-pub mod Chosen
 pub mod Firsts
 pub mod Gathered
+pub mod Spotted

@@ -1,2 +1,4 @@
 pub mod Starts
 pub mod Tests
+pub mod Walks
+pub mod Spots

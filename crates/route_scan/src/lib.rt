@@ -5,6 +5,7 @@ mod router;
 mod rules;
 mod scan;
 mod starts;
+mod trees;
 mod trial;
 
 pub use cfg_types::{Choice, Reply};

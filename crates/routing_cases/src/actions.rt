@@ -2,8 +2,8 @@
 use crate::replies::all_hold;
 use std::test::Fail;
 
-/// Shares by the random value, rewritten prefixes, clusters and hosts out of headers, redirects, and what no route
-/// is chosen for. The last table edits headers, but without a route nothing is edited.
+/// Shares by the random value, rewritten prefixes, clusters and hosts out of headers, virtual clusters by the request as
+/// received, redirects, and what no route is chosen for. The last table edits headers, but without a route nothing is edited.
 const ACTIONS: &str =
     r#"{"match":{"prefix":"/"},"route":{"weighted_clusters":{"clusters":[{"name":"a","weight":30},{"name":"b","weight":0},{"name":"c","weight":70}]}}}
 forward 0 a other h / [x-forwarded-proto=http;] [] <- {"authority":"h","path":"/","random_value":29}
@@ -22,6 +22,10 @@ forward 0 GET other h / [x-forwarded-proto=http;x-a=one;x-a=two;] [] <- {"author
 forward 0 http other h / [x-forwarded-proto=http;x-a=one;x-a=two;] [] <- {"authority":"h","path":"/","additional_request_headers":[{"key":"x-a","value":"one"},{"key":"x-a","value":"two"}]}
 {"match":{"prefix":"/"},"route":{"cluster":"c","prefix_rewrite":"/v2/","host_rewrite_header":":path"}}
 forward 0 c other /v2/p?q /v2/p?q [x-forwarded-proto=http;] [] <- {"authority":"h","path":"/p?q"}
+{"virtual_hosts":[{"name":"h","domains":["*"],"virtual_clusters":[{"name":"get","headers":[{"name":":method","exact_match":"GET"}]},{"name":"all","headers":[{"name":"x","exact_match":"1"}]}],"routes":[{"match":{"prefix":"/"},"route":{"cluster":"c"},"request_headers_to_remove":["x"]}]}]}
+forward 0 c get h / [x-forwarded-proto=http;] [] <- {"authority":"h","path":"/","additional_request_headers":[{"key":"x","value":"1"}]}
+forward 0 c all h / [x-forwarded-proto=http;] [] <- {"authority":"h","path":"/","method":"POST","additional_request_headers":[{"key":"x","value":"1"}]}
+forward 0 c other h / [x-forwarded-proto=http;] [] <- {"authority":"h","path":"/","method":"POST"}
 {"match":{"prefix":"/old"},"redirect":{"https_redirect":true,"path_redirect":"/new?foo=1","strip_query":true}}
 redirect 0 301 https://h/new?foo=1 [] <- {"authority":"h:80","path":"/old?bar=1"}
 {"match":{"prefix":"/"},"redirect":{"https_redirect":true,"port_redirect":8443}}

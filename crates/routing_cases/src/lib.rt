@@ -4,8 +4,6 @@
 #[cfg(test)]
 mod actions;
 #[cfg(test)]
-mod clusters;
-#[cfg(test)]
 mod edits;
 #[cfg(test)]
 mod hosts;

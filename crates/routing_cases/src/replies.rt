@@ -1,6 +1,5 @@
 // The reply to a request by a configuration, told whole, and tables of such replies.
-ghost use Rattle.std.specs.Prelude.{All, IfOk, IsTrue};
-ghost use Rattle.cfg_types.specs.Built.{is_built};
+ghost use Rattle.std.specs.Prelude.{All, IfOk};
 ghost use Rattle.cfg_types.specs.Lawful.{IsLawful};
 ghost use Rattle.test_read.specs.Lawful.{IsLawfulTest};
 
@@ -9,7 +8,7 @@ use json_walk::{ReadFail, Refusal};
 use read_config::read_config;
 use route_answer::answer;
 use route_match::Scratch;
-use route_scan::{Scan, choose_by_rules, room_of, rule_tests};
+use route_scan::{Router, Scan, choose_by_rules, room_of, rule_tests};
 use sqlite_items::Items;
 use std::alloc::Global;
 use std::test::Fail;
@@ -100,8 +99,7 @@ fn told_offence(alloc: Global, fail: ReadFail) -> Result<String, OutOfMemory> {
 
 /// The configuration of a line: the line itself, or one host of all domains with the routes that the line lists.
 pub(crate) fn config_of(alloc: Global, line: &str) -> Result<Config, ReadFail>
-    ensures lawful { IfOk result IsLawful }
-    ensures built { IfOk result (λ c. IsTrue (is_built c)) }
+    ensures { IfOk result IsLawful }
 {
     if !line.starts_with("{\"match\"") {
         return read_config(alloc, line.as_bytes());
@@ -123,12 +121,11 @@ pub(crate) fn tests_of(alloc: Global, input: &str) -> Result<Items<Test>, ReadFa
 
 fn reply_to(alloc: Global, config: &Config, test: &Test) -> Result<Reply, OutOfMemory>
     requires lawful { IsLawful config.now }
-    requires built { IsTrue (is_built config.now) }
     requires asked { IsLawfulTest test.now }
 {
     let scan = Scan::build(alloc, config)?;
     let tests = rule_tests(alloc, config)?;
-    let mut scratch = Scratch::new(alloc, room_of(&tests))?;
+    let mut scratch = Scratch::new(alloc, room_of(&tests).max(scan.room()))?;
     let choice = choose_by_rules(&scan, &tests, &test.request, &mut scratch);
     answer(alloc, config, choice, &test.request, &test.response)
 }
@@ -136,7 +133,6 @@ fn reply_to(alloc: Global, config: &Config, test: &Test) -> Result<Reply, OutOfM
 /// The replies to these tests.
 fn replies(alloc: Global, config: &Config, tests: &[Test]) -> Result<String, Fail>
     requires lawful { IsLawful config.now }
-    requires built { IsTrue (is_built config.now) }
     requires asked { All IsLawfulTest tests.now }
 {
     let mut replies = String::new(alloc);

@@ -1,6 +1,5 @@
 // Choices, and how many routes are tried for them.
-ghost use Rattle.std.specs.Prelude.{◌≤◌, IsTrue};
-ghost use Rattle.cfg_types.specs.Built.{is_built};
+ghost use Rattle.std.specs.Prelude.{◌≤◌};
 ghost use Rattle.route_scan.specs.Tests.{AreTestsOf, most_room};
 
 use crate::replies::{config_of, tests_of};
@@ -21,8 +20,9 @@ fn choice_over(
     own: &mut Scratch,
     scratch: &mut Scratch,
 ) -> (Choice, u64)
-    requires tests { AreTestsOf scan.now tests.now }
+    requires tests { AreTestsOf scan.now.table tests.now }
     requires room { most_room tests.now ≤ scratch.old }
+    requires walks { scan.now.room ≤ own.old }
 {
     let mut full = Rules {
         tests,
@@ -40,9 +40,7 @@ const TWO_HOSTS: &str =
     r#"{"virtual_hosts":[{"name":"x","domains":["x"],"require_tls":"EXTERNAL_ONLY","routes":[{"match":{"prefix":"/","headers":[{"name":"a"}]},"direct_response":{"status":200}},{"match":{"prefix":"/","headers":[{"name":"b"}]},"direct_response":{"status":201}}]},{"name":"y","domains":["y"],"require_tls":"ALL","routes":[{"match":{"prefix":"/","headers":[{"name":"a"}]},"direct_response":{"status":202}},{"match":{"prefix":"/","headers":[{"name":"b"}]},"direct_response":{"status":203}}]}]}"#;
 
 /// What is chosen for the request, and how many routes are tried.
-fn told_trials(alloc: Global, config: &Config, request: &Request) -> Result<String, OutOfMemory>
-    requires { IsTrue (is_built config.now) }
-{
+fn told_trials(alloc: Global, config: &Config, request: &Request) -> Result<String, OutOfMemory> {
     let scan = Scan::build(alloc, config)?;
     let tests = rule_tests(alloc, config)?;
     let mut own = Scratch::new(alloc, scan.room())?;

@@ -4,7 +4,7 @@ use Rattle.std.specs.Prelude.{codes}
 use Rattle.serde_json.specs.Data.{null, boolean, number, unsigned, string, array, object, no_items, item, no_members, member}
 use Rattle.text_base.specs.Asked.{plain_request}
 use Rattle.json_tables.specs.Names.{authority, path, method, internal, ssl, random_value, runtime, additional_request_headers, additional_response_headers, key, value, cluster_name, virtual_cluster_name, virtual_host_name, host_rewrite, path_rewrite, path_redirect, request_header_matches, response_header_matches, test_name, input as input_name, validate as validate_name, tests}
-use Rattle.json_walk.specs.declared.refusal.Kind.TheVariants.{WrongKind, BadText, Missing, NotInProfile}
+use Rattle.json_walk.specs.declared.refusal.Kind.TheVariants.{WrongKind, BadText, Missing}
 use Rattle.json_walk.specs.Outcome.{offence}
 use Rattle.json_walk.specs.Members.{members_at, scan_object, scan, judge, allowed, known, once}
 use Rattle.json_walk.specs.Fields.{field, optional, required}
@@ -13,7 +13,7 @@ use Rattle.json_walk.specs.Numbers.{count, whole, number_said}
 use Rattle.read_match.specs.Kinds.{header_name, lowered}
 use Rattle.test_read.specs.Headers.{header_key, header_value, header, headers}
 use Rattle.test_read.specs.Inputs.{default_method, asked_line, asked_flags, asked_parts, valid_request, input}
-use Rattle.test_read.specs.Validation.{expects_nothing, expecting, validate}
+use Rattle.test_read.specs.Validation.{expects_nothing, expecting, both_header_rules, validate}
 use Rattle.test_read.specs.Tests.{test_entry, test_file}
 
 part_is_no_header : header (codes "/h/0") (object (member (codes "key") (string (codes ":path")) no_members)) ≡ offence (codes "/h/0/key") BadText
@@ -76,15 +76,15 @@ unfolding valid_request authority
 authority_before_path = refl
 
 nothing_expected : validate (codes "/t") (object (member (codes "clusterName") null no_members)) ≡ offence (codes "/t") Missing
-unfolding validate expecting expects_nothing members_at scan_object scan judge allowed known once field optional cluster_name virtual_cluster_name virtual_host_name host_rewrite path_rewrite path_redirect request_header_matches response_header_matches
+unfolding validate both_header_rules expecting expects_nothing members_at scan_object scan judge allowed known once field optional cluster_name virtual_cluster_name virtual_host_name host_rewrite path_rewrite path_redirect request_header_matches response_header_matches
 nothing_expected = refl
 
 -- each text under the name of its field
 every_text : validate [] (object (member (codes "cluster_name") (string (codes "c")) (member (codes "host_rewrite") (string (codes "a")) (member (codes "path_redirect") (string (codes "u"))
-    (member (codes "path_rewrite") (string (codes "p")) (member (codes "virtual_host_name") (string (codes "h")) no_members))))))
+    (member (codes "path_rewrite") (string (codes "p")) (member (codes "virtual_cluster_name") (string (codes "v")) (member (codes "virtual_host_name") (string (codes "h")) no_members)))))))
     ≡ Ok (record {
       cluster_name = Some (codes "c");
-      virtual_cluster_name = None;
+      virtual_cluster_name = Some (codes "v");
       virtual_host_name = Some (codes "h");
       host_rewrite = Some (codes "a");
       path_rewrite = Some (codes "p");
@@ -92,12 +92,18 @@ every_text : validate [] (object (member (codes "cluster_name") (string (codes "
       request_header_matches = [];
       response_header_matches = [];
     })
-unfolding validate expecting expects_nothing text members_at scan_object scan judge allowed known once field optional cluster_name virtual_cluster_name virtual_host_name host_rewrite path_rewrite path_redirect request_header_matches response_header_matches
+unfolding validate both_header_rules expecting expects_nothing text members_at scan_object scan judge allowed known once field optional cluster_name virtual_cluster_name virtual_host_name host_rewrite path_rewrite path_redirect request_header_matches response_header_matches
 every_text = refl
 
-unbuilt_expectation : validate (codes "/t") (object (member (codes "cluster_name") (string (codes "c")) (member (codes "virtualClusterName") (string (codes "v")) no_members))) ≡ offence (codes "/t/virtual_cluster_name") NotInProfile
-unfolding validate members_at scan_object scan judge allowed known once cluster_name virtual_cluster_name virtual_host_name host_rewrite path_rewrite path_redirect request_header_matches response_header_matches
-unbuilt_expectation = refl
+-- a list without rules expects nothing
+no_rules_are_no_expectation : validate (codes "/tests/0/validate") (object (member (codes "request_header_matches") (array no_items) no_members)) ≡ offence (codes "/tests/0/validate") Missing
+unfolding validate both_header_rules expecting expects_nothing list list_of items members_at scan_object scan judge allowed known once field optional cluster_name virtual_cluster_name virtual_host_name host_rewrite path_rewrite path_redirect request_header_matches response_header_matches
+no_rules_are_no_expectation = refl
+
+-- the rules on the request come before those on the response
+request_rules_before_response_rules : both_header_rules [] (object (member (codes "request_header_matches") (boolean true) (member (codes "response_header_matches") (boolean true) no_members))) ≡ offence (codes "/request_header_matches") WrongKind
+unfolding both_header_rules list list_of field optional request_header_matches response_header_matches
+request_rules_before_response_rules = refl
 
 no_tests : test_file [] (object no_members) ≡ offence (codes "/tests") Missing
 unfolding test_file members_at scan_object scan field required tests
@@ -129,5 +135,5 @@ one_test : test_entry [] (object (member (codes "input") (object (member (codes 
         response_header_matches = [];
       };
     })
-unfolding test_entry input asked_line asked_flags asked_parts default_method valid_request validate expecting expects_nothing text members_at scan_object scan judge allowed known once field optional required authority path method internal ssl random_value runtime additional_request_headers additional_response_headers cluster_name virtual_cluster_name virtual_host_name host_rewrite path_rewrite path_redirect request_header_matches response_header_matches test_name input_name validate_name
+unfolding test_entry input asked_line asked_flags asked_parts default_method valid_request validate both_header_rules expecting expects_nothing text members_at scan_object scan judge allowed known once field optional required authority path method internal ssl random_value runtime additional_request_headers additional_response_headers cluster_name virtual_cluster_name virtual_host_name host_rewrite path_rewrite path_redirect request_header_matches response_header_matches test_name input_name validate_name
 one_test = refl

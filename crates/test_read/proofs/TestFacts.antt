@@ -1,6 +1,6 @@
 -- Tests that are read are lawful.
-use Rattle.std.proofs.Common.{ℕ, List, Ok, None, Err}
-use Rattle.std.specs.Prelude.{All, IfOk, Result}
+use Rattle.std.proofs.Common.{ℕ, List, [], Ok, None, Err}
+use Rattle.std.specs.Prelude.{All, IfOk, Result, unwrap_or}
 use Rattle.std.proofs.lemmas.List.Elements.{All-nil}
 use Rattle.serde_json.specs.Data.{Data}
 use Rattle.json_tables.specs.declared.message.Message.TheVariants as messages
@@ -12,13 +12,16 @@ use Rattle.json_walk.specs.Members.{members_at}
 use Rattle.json_walk.specs.Fields.{optional, required}
 use Rattle.json_walk.specs.Leaves.{text, list_of}
 use Rattle.cfg_types.specs.Lawful.{IsLawfulHeader}
+use Rattle.cfg_types.specs.declared.rules.HeaderRule.{HeaderRule}
+use Rattle.read_match.specs.Headers.{header_matcher}
+use Rattle.read_match.proofs.LawfulRules.{of_header}
 use Rattle.test_read.specs.declared.test.Expect.{Expect}
 use Rattle.test_read.specs.declared.test.Test.{Test}
 use Rattle.test_read.specs.Inputs.{input}
-use Rattle.test_read.specs.Validation.{expects_nothing, expecting, validate}
+use Rattle.test_read.specs.Validation.{expects_nothing, expecting, both_header_rules, validate}
 use Rattle.test_read.specs.Tests.{test_entry, test_file}
 use Rattle.test_read.specs.Lawful.{IsLawfulTest}
-use Rattle.json_walk.proofs.ReadFacts.{Reads, after, whatever, where_false, of_outcome, of_required, of_list}
+use Rattle.json_walk.proofs.ReadFacts.{Reads, after, whatever, where_false, of_outcome, of_optional, of_required, of_list}
 use Rattle.test_read.proofs.InputFacts.{IsInput, of_input}
 
 -- the rules on headers that are expected are lawful
@@ -30,11 +33,25 @@ of_expecting : (p : List ℕ) (e : Expect) → HasLawfulRules e → IfOk (expect
 unfolding expecting
 of_expecting p e h = where_false (expects_nothing e) (Ok e) p Missing HasLawfulRules (λ _. h)
 
+-- the rules on headers, of the request and of the response
+abbrev AreLawful : List HeaderRule × List HeaderRule → Type 0
+AreLawful rules = All IsLawfulHeader rules.0 × All IsLawfulHeader rules.1
+
+rules_of : (p n : List ℕ) (d : Data) → IfOk (optional p d n (list_of None header_matcher)) (λ o. All IsLawfulHeader (unwrap_or o []))
+rules_of p n d = of_optional p d n (list_of None header_matcher) [] (All IsLawfulHeader) (All-nil IsLawfulHeader) (of_list None header_matcher IsLawfulHeader of_header)
+
+of_rules : Reads AreLawful both_header_rules
+unfolding both_header_rules
+of_rules p d =
+    after (optional p d name.request_header_matches (list_of None header_matcher)) _ (λ o. All IsLawfulHeader (unwrap_or o [])) AreLawful (rules_of p name.request_header_matches d) (λ request q.
+    after (optional p d name.response_header_matches (list_of None header_matcher)) _ (λ o. All IsLawfulHeader (unwrap_or o [])) AreLawful (rules_of p name.response_header_matches d) (λ response r. (q, r)))
+
 of_validate : Reads HasLawfulRules validate
 unfolding validate
 of_validate p d =
-    whatever (members_at messages.Validate p d) _ HasLawfulRules (λ _. whatever (optional p d name.cluster_name text) _ HasLawfulRules (λ cluster. whatever (optional p d name.virtual_host_name text) _ HasLawfulRules (λ host. whatever (optional p d name.host_rewrite text) _ HasLawfulRules (λ authority. whatever (optional p d name.path_rewrite text) _ HasLawfulRules (λ target. whatever (optional p d name.path_redirect text) _ HasLawfulRules (λ url.
-    of_expecting p _ (record { of_request = All-nil IsLawfulHeader; of_response = All-nil IsLawfulHeader })))))))
+    whatever (members_at messages.Validate p d) _ HasLawfulRules (λ _. whatever (optional p d name.cluster_name text) _ HasLawfulRules (λ cluster. whatever (optional p d name.virtual_cluster_name text) _ HasLawfulRules (λ virtual_cluster. whatever (optional p d name.virtual_host_name text) _ HasLawfulRules (λ host. whatever (optional p d name.host_rewrite text) _ HasLawfulRules (λ authority. whatever (optional p d name.path_rewrite text) _ HasLawfulRules (λ target. whatever (optional p d name.path_redirect text) _ HasLawfulRules (λ url.
+    after (both_header_rules p d) _ AreLawful HasLawfulRules (of_rules p d) (λ rules l.
+    of_expecting p _ (record { of_request = l.0; of_response = l.1 })))))))))
 
 of_test : Reads IsLawfulTest test_entry
 unfolding test_entry

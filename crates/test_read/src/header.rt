@@ -1,5 +1,5 @@
 // Headers of a test.
-ghost use Rattle.std.specs.Prelude.{◌≡◌, bytes_eq, unwrap_or, []};
+ghost use Rattle.std.specs.Prelude.{◌≡◌, bytes_eq};
 ghost use Rattle.std.specs.List.{list_all, list_any};
 ghost use Rattle.text_base.specs.Alphabets.{is_printed as is_printed_code};
 ghost use Rattle.text_base.specs.Requests.{reserved_names, is_header_value as is_value_of};
@@ -7,7 +7,8 @@ ghost use Rattle.json_walk.specs.Leaves.{text};
 ghost use Rattle.test_read.specs.Headers.{header_key, header_value, header, headers};
 
 use json_walk::{
-    Kind, Message, ReadFail, Reader, Text, members, optional, read_list, refused_at, required,
+    Kind, Message, ReadFail, Reader, Text, members, optional, or_empty, read_list, refused_at,
+    required,
 };
 use read_match::HeaderName;
 use serde_json::Value;
@@ -32,16 +33,6 @@ impl Reader for TextBytes {
             Some(text) => Ok(Items::from_slice(alloc, text.as_bytes())?),
             None => Err(refused_at(place.copy(alloc)?, Kind::WrongKind)),
         }
-    }
-}
-
-/// The list, or an empty one where it is absent.
-pub fn or_empty<T: Drop>(alloc: Global, list: Option<Items<T>>) -> Items<T>
-    ensures { result ≡ unwrap_or list [] }
-{
-    match list {
-        Some(list) => list,
-        None => Items::new(alloc),
     }
 }
 

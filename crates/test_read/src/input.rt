@@ -7,10 +7,10 @@ ghost use Rattle.json_walk.specs.Members.{names_of};
 ghost use Rattle.json_walk.specs.Numbers.{count};
 ghost use Rattle.test_read.specs.Inputs.{default_method, asked_line as asked_line_of, asked_flags as asked_flags_of, asked_parts as asked_parts_of, input};
 
-use crate::header::{HeaderList, TextBytes, or_empty};
+use crate::header::{HeaderList, TextBytes};
 use crate::request::valid_request;
 use json_walk::{
-    Message, Names, ReadFail, Reader, Text, Truth, count_of, members, optional, required,
+    Message, Names, ReadFail, Reader, Text, Truth, count_of, members, optional, or_empty, required,
 };
 use req_model::Request;
 use serde_json::Value;

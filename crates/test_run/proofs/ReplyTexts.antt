@@ -12,7 +12,7 @@ use Rattle.text_base.specs.Forms.{ends}
 use Rattle.text_base.specs.Hosts.{host_text}
 use Rattle.text_base.specs.Requests.{is_valid}
 use Rattle.text_base.specs.Heads.{heads}
-use Rattle.text_base.specs.Seen.{values, not_empty, path_of, query_part, has_byte}
+use Rattle.text_base.specs.Seen.{values, joined_values, not_empty, path_of, query_part, has_byte}
 use Rattle.cfg_types.specs.Order.{routes}
 use Rattle.cfg_types.specs.Targets.{swapped, rewritten, target_for, new_target}
 use Rattle.cfg_types.specs.Redirects.{or_text, proto, scheme_of, port_part, without_ending, own_port, kept_host, host_part, with_query, target_part, url_of, redirect_url}
@@ -37,7 +37,8 @@ use Rattle.cfg_types.specs.declared.answers.Reply.{Reply}
 use Rattle.cfg_types.specs.declared.answers.Reply.TheVariants as reply
 use Rattle.cfg_types.proofs.LawfulLevels.{route_lawful, levels_lawful}
 use Rattle.test_read.specs.declared.test.Test.{Test}
-use Rattle.test_run.specs.Verdicts.{cluster_in, route_in, host_in, host_name, authority_in, target_in, url_in, AreTexts, text_failure, failures_of}
+use Rattle.test_run.specs.Verdicts.{cluster_in, virtual_cluster_in, route_in, authority_in, target_in, url_in, AreTexts, request_text, response_heads, response_text, names_a_part, text_failures, failures_of}
+use Rattle.test_run.proofs.HeaderFailures.{fail_alike}
 use Rattle.test_run.proofs.Ascii.{Ascii, HasAscii, IsPlain, plain, nothing, in_front, joined, front, rest, either, of_printed, of_visible, of_decimal, is_text, path_ascii, query_ascii, host_ascii, heads_ascii, values_ascii, proto_ascii}
 use Rattle.test_run.proofs.AsciiEdits.{levels_ascii}
 
@@ -170,13 +171,14 @@ reply_texts c (choice.Chosen n) q response l v = at_texts c (host_of_route c n) 
 -- what is told of two replies that are the same but for the order of headers
 pub record TellSame (r s : Reply) : Type 0 where
   pub cluster : cluster_in r ≡ cluster_in s
+  pub virtual_cluster : virtual_cluster_in r ≡ virtual_cluster_in s
   pub route : route_in r ≡ route_in s
   pub authority : authority_in r ≡ authority_in s
   pub target : target_in r ≡ target_in s
   pub url : url_in r ≡ url_in s
 
 tell_equal : (r s : Reply) → r ≡ s → TellSame r s
-tell_equal r s e = record { cluster = ap cluster_in e; route = ap route_in e; authority = ap authority_in e; target = ap target_in e; url = ap url_in e }
+tell_equal r s e = record { cluster = ap cluster_in e; virtual_cluster = ap virtual_cluster_in e; route = ap route_in e; authority = ap authority_in e; target = ap target_in e; url = ap url_in e }
 
 pub tell_same : (r s : Reply) → IsSameReply r s → TellSame r s
 tell_same r reply.NoHost e = tell_equal r reply.NoHost e
@@ -184,13 +186,13 @@ tell_same r (reply.NoRoute h) e = tell_equal r (reply.NoRoute h) e
 tell_same r (reply.Tls h url) e = tell_equal r (reply.Tls h url) e
 tell_same r (reply.Forward n cluster vc target authority sent answered) e =
     let t = tell_equal r (reply.Forward n cluster vc target authority e.request e.response) e.is in
-    record { cluster = t.cluster; route = t.route; authority = t.authority; target = t.target; url = t.url }
+    record { cluster = t.cluster; virtual_cluster = t.virtual_cluster; route = t.route; authority = t.authority; target = t.target; url = t.url }
 tell_same r (reply.Redirect n code url answered) e =
     let t = tell_equal r (reply.Redirect n code url e.response) e.is in
-    record { cluster = t.cluster; route = t.route; authority = t.authority; target = t.target; url = t.url }
+    record { cluster = t.cluster; virtual_cluster = t.virtual_cluster; route = t.route; authority = t.authority; target = t.target; url = t.url }
 tell_same r (reply.Direct n status answered) e =
     let t = tell_equal r (reply.Direct n status e.response) e.is in
-    record { cluster = t.cluster; route = t.route; authority = t.authority; target = t.target; url = t.url }
+    record { cluster = t.cluster; virtual_cluster = t.virtual_cluster; route = t.route; authority = t.authority; target = t.target; url = t.url }
 
 -- ---- the reply to a test
 
@@ -218,14 +220,43 @@ pub within_of_reply : (c : Config) (k : Choice) (q : Asked) (response : List Hea
 within_of_reply c k q response r i =
     subst (λ (o : Option ℕ). IfSome o (λ n. n < length (routes c))) (sym (tell_same r (reply_of c k q response) i).route) (told_within c k q response)
 
+texts_same : (c : Config) (r s : Reply) (t : Test) → IsSameReply r s → text_failures c r t ≡ text_failures c s t
+texts_same c r s t i =
+    let e = tell_same r s i in
+    rw (e.cluster, e.virtual_cluster, e.route, e.authority, e.target, e.url) refl
+
+request_alike : (q : Asked) (r s : Reply) → IsSameReply r s → (name : Bytes) → request_text q r name ≡ request_text q s name
+request_alike q r reply.NoHost i name = ap (λ x. request_text q x name) i
+request_alike q r (reply.NoRoute h) i name = ap (λ x. request_text q x name) i
+request_alike q r (reply.Tls h url) i name = ap (λ x. request_text q x name) i
+request_alike q r (reply.Forward n cluster vc target authority sent answered) i name =
+    ap (λ x. request_text q x name) i.is
+    ∙ ap (λ vs. if bytes_eq name (codes ":authority") then Some authority else if bytes_eq name (codes ":path") then Some target else if bytes_eq name (codes ":method") then Some q.method else joined_values vs) (i.same_request name)
+request_alike q r (reply.Redirect n code url answered) i name = ap (λ x. request_text q x name) i.is
+request_alike q r (reply.Direct n status answered) i name = ap (λ x. request_text q x name) i.is
+
+-- the texts of a name among headers with the same values
+heads_alike : (a b : List Head) (name : Bytes) → values name a ≡ values name b → response_text a name ≡ response_text b name
+heads_alike a b name e = ap (λ vs. if names_a_part name then None else joined_values vs) e
+
+response_alike : (received : List Head) (r s : Reply) → IsSameReply r s → (name : Bytes) → response_text (response_heads r received) name ≡ response_text (response_heads s received) name
+response_alike received r reply.NoHost i name = ap (λ x. response_text (response_heads x received) name) i
+response_alike received r (reply.NoRoute h) i name = ap (λ x. response_text (response_heads x received) name) i
+response_alike received r (reply.Tls h url) i name = ap (λ x. response_text (response_heads x received) name) i
+response_alike received r (reply.Forward n cluster vc target authority sent answered) i name =
+    ap (λ x. response_text (response_heads x received) name) i.is ∙ heads_alike i.response.list answered.list name (i.same_response name)
+response_alike received r (reply.Redirect n code url answered) i name =
+    ap (λ x. response_text (response_heads x received) name) i.is ∙ heads_alike i.response.list answered.list name (i.same_response name)
+response_alike received r (reply.Direct n status answered) i name =
+    ap (λ x. response_text (response_heads x received) name) i.is ∙ heads_alike i.response.list answered.list name (i.same_response name)
+
 pub failures_same : (c : Config) (r s : Reply) (t : Test) → IsSameReply r s → failures_of c r t ≡ failures_of c s t
 failures_same c r s t i =
-    let e = tell_same r s i in
-    ap (λ x. text_failure 0 t.expect.cluster_name x ++ text_failure 2 t.expect.virtual_host_name (host_in c r) ++ text_failure 3 t.expect.host_rewrite (authority_in r) ++ text_failure 4 t.expect.path_rewrite (target_in r) ++ text_failure 5 t.expect.path_redirect (url_in r)) e.cluster
-    ∙ ap (λ x. text_failure 0 t.expect.cluster_name (cluster_in s) ++ text_failure 2 t.expect.virtual_host_name (host_name c x) ++ text_failure 3 t.expect.host_rewrite (authority_in r) ++ text_failure 4 t.expect.path_rewrite (target_in r) ++ text_failure 5 t.expect.path_redirect (url_in r)) e.route
-    ∙ ap (λ x. text_failure 0 t.expect.cluster_name (cluster_in s) ++ text_failure 2 t.expect.virtual_host_name (host_in c s) ++ text_failure 3 t.expect.host_rewrite x ++ text_failure 4 t.expect.path_rewrite (target_in r) ++ text_failure 5 t.expect.path_redirect (url_in r)) e.authority
-    ∙ ap (λ x. text_failure 0 t.expect.cluster_name (cluster_in s) ++ text_failure 2 t.expect.virtual_host_name (host_in c s) ++ text_failure 3 t.expect.host_rewrite (authority_in s) ++ text_failure 4 t.expect.path_rewrite x ++ text_failure 5 t.expect.path_redirect (url_in r)) e.target
-    ∙ ap (λ x. text_failure 0 t.expect.cluster_name (cluster_in s) ++ text_failure 2 t.expect.virtual_host_name (host_in c s) ++ text_failure 3 t.expect.host_rewrite (authority_in s) ++ text_failure 4 t.expect.path_rewrite (target_in s) ++ text_failure 5 t.expect.path_redirect x) e.url
+    rw (
+      texts_same c r s t i,
+      fail_alike 6 (request_text t.request r) (request_text t.request s) t.expect.request_header_matches (request_alike t.request r s i),
+      fail_alike 7 (response_text (response_heads r t.response.list)) (response_text (response_heads s t.response.list)) t.expect.response_header_matches (response_alike t.response.list r s i),
+    ) refl
 
 pub texts_of_reply : (c : Config) (k : Choice) (q : Asked) (response : List Head) (r : Reply) → IsLawful c → is_valid q ≡ true → IsReply c k q response r → AreTexts r
 texts_of_reply c k q response r l v i =

@@ -1,3 +1,4 @@
 pub mod Verdicts
+pub mod HeaderTexts
 pub mod Coverage
 pub mod Lines

@@ -1,5 +1,5 @@
 -- The lines of `check`: compact JSON with members in byte order, each followed by a line feed.
-use Rattle.std.specs.Prelude.{ℕ, ◌≤◌, ◌⊎◌, ◌≡◌, List, [], ◌∷◌, ◌++◌, length, map, flat_map, if◌then◌else◌, codes, slice_index_or}
+use Rattle.std.specs.Prelude.{ℕ, ◌≤◌, ◌⊎◌, ◌≡◌, Bool, ◌&&◌, List, [], ◌∷◌, ◌++◌, length, map, flat_map, if◌then◌else◌, codes, slice_index_or}
 use Rattle.serde_json.specs.Data.{Data, number, string, array, object, no_members, member, unsigned}
 use Rattle.serde_json.specs.View.{items_of}
 use Rattle.serde_json.specs.Written.{compact_text}
@@ -7,7 +7,7 @@ use Rattle.text_base.specs.Asked.{Bytes}
 use Rattle.cfg_types.specs.Order.{routes}
 use Rattle.cfg_types.specs.declared.configs.Config.{Config}
 use Rattle.test_read.specs.declared.test.Test.{Test}
-use Rattle.test_run.specs.Verdicts.{failures, is_none, failed}
+use Rattle.test_run.specs.Verdicts.{failures, is_none, passes, failed}
 use Rattle.test_run.specs.Coverage.{covered}
 use Rattle.test_run.specs.declared.verdicts.Failure.{Failure}
 use Rattle.test_run.specs.declared.verdicts.Failure.TheVariants as failure
@@ -61,6 +61,10 @@ sum_value covered failed routes tests = object (member (codes "covered") (number
 unfoldable pub sum_line : ℕ → ℕ → ℕ → ℕ → Bytes
 sum_line covered failed routes tests = line_of (sum_value covered failed routes tests)
 
--- a line for each test in order, then the sums
-unfoldable pub check_text : Config → List Test → Bytes
-check_text c ts = flat_map (test_line c) ts ++ sum_line (covered c ts) (failed c ts) (length (routes c)) (length ts)
+-- the line of a test, or nothing where it passes and only failures are shown
+abbrev pub shown_line : Bool → Config → Test → Bytes
+shown_line only_failures c t = if only_failures && passes c t then [] else test_line c t
+
+-- a line for each test that is shown, in order, then the sums of all tests
+unfoldable pub check_text : Bool → Config → List Test → Bytes
+check_text only_failures c ts = flat_map (shown_line only_failures c) ts ++ sum_line (covered c ts) (failed c ts) (length (routes c)) (length ts)

@@ -2,6 +2,7 @@
 #![tactic(auto)]
 
 mod coverage;
+mod headers;
 mod lines;
 mod verdicts;
 

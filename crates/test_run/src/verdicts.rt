@@ -4,9 +4,10 @@ ghost use Rattle.std.specs.Str.{IsUtf8};
 ghost use Rattle.cfg_types.specs.Answers.{IsReply};
 ghost use Rattle.cfg_types.specs.Lawful.{IsLawful};
 ghost use Rattle.cfg_types.specs.Order.{routes};
-ghost use Rattle.test_run.specs.Verdicts.{choice_at, cluster_in as cluster_of_reply, route_in as route_of_reply, host_name as name_of_host, authority_in as authority_of_reply, target_in as target_of_reply, url_in as url_of_reply, text_failure, failures as failures_to, failures_of as failures_by, AreTexts};
+ghost use Rattle.test_run.specs.Verdicts.{choice_at, cluster_in as cluster_of_reply, virtual_cluster_in as virtual_cluster_of_reply, route_in as route_of_reply, host_name as name_of_host, authority_in as authority_of_reply, target_in as target_of_reply, url_in as url_of_reply, text_failure, failures as failures_to, failures_of as failures_by, text_failures as text_failures_by, AreTexts};
 ghost use Rattle.test_run.specs.Lines.{IsNamed};
 
+use crate::headers::{judge, request_looked, response_looked};
 use cfg_types::{Config, Reply};
 use sqlite_items::Items;
 use std::alloc::Global;
@@ -39,6 +40,19 @@ fn cluster_in(answer: &Reply) -> &str
 {
     match answer {
         Reply::Forward { cluster, .. } => cluster.as_str(),
+        _ => "",
+    }
+}
+
+/// The virtual cluster where the request is forwarded, else the empty text.
+fn virtual_cluster_in(answer: &Reply) -> &str
+    ensures { result.now ≡ virtual_cluster_of_reply answer.now }
+{
+    match answer {
+        Reply::Forward {
+            virtual_cluster,
+            ..
+        } => virtual_cluster.as_str(),
         _ => "",
     }
 }
@@ -137,6 +151,37 @@ fn compare(
     })
 }
 
+/// In which texts a test fails whose request gets this reply.
+fn text_failures(
+    alloc: Global,
+    config: &Config,
+    answer: &Reply,
+    test: &Test,
+) -> Result<Items<Failure>, OutOfMemory>
+    requires texts { AreTexts answer.now }
+    requires within { IfSome (route_of_reply answer.now) (λ n. n < length (routes config.now)) }
+    requires lawful { IsLawful config.now }
+    ensures failures { IfOk result (λ fs. fs ≡ text_failures_by config.now answer.now test.now) }
+    ensures named { IfOk result (λ fs. All IsNamed fs) }
+{
+    let expect = &test.expect;
+    let cluster = cluster_in(answer);
+    let virtual_cluster = virtual_cluster_in(answer);
+    let host = host_name(config, route_in(answer));
+    let authority = text_of(authority_in(answer));
+    let target = text_of(target_in(answer));
+    let url = text_of(url_in(answer));
+    let mut failures = Items::new(alloc);
+    let all = &mut failures;
+    compare(alloc, all, 0, &expect.cluster_name, cluster)?;
+    compare(alloc, all, 1, &expect.virtual_cluster_name, virtual_cluster)?;
+    compare(alloc, all, 2, &expect.virtual_host_name, host)?;
+    compare(alloc, all, 3, &expect.host_rewrite, authority)?;
+    compare(alloc, all, 4, &expect.path_rewrite, target)?;
+    compare(alloc, all, 5, &expect.path_redirect, url)?;
+    Ok(failures)
+}
+
 /// In what a test fails whose request gets this reply.
 fn failures_of(
     alloc: Global,
@@ -151,22 +196,23 @@ fn failures_of(
     ensures named { IfOk result (λ fs. All IsNamed fs) }
 {
     let expect = &test.expect;
-    let host = host_name(config, route_in(answer));
-    let authority = text_of(authority_in(answer));
-    let target = text_of(target_in(answer));
-    let url = text_of(url_in(answer));
-    let mut failures = Items::new(alloc);
-    compare(
+    let mut failures = text_failures(alloc, config, answer, test)?;
+    let request = request_looked(alloc, test, answer)?;
+    judge(
         alloc,
         &mut failures,
-        0,
-        &expect.cluster_name,
-        cluster_in(answer),
+        6,
+        expect.request_header_matches.as_slice(),
+        &request,
     )?;
-    compare(alloc, &mut failures, 2, &expect.virtual_host_name, host)?;
-    compare(alloc, &mut failures, 3, &expect.host_rewrite, authority)?;
-    compare(alloc, &mut failures, 4, &expect.path_rewrite, target)?;
-    compare(alloc, &mut failures, 5, &expect.path_redirect, url)?;
+    let response = response_looked(alloc, test, answer)?;
+    judge(
+        alloc,
+        &mut failures,
+        7,
+        expect.response_header_matches.as_slice(),
+        &response,
+    )?;
     Ok(failures)
 }
 

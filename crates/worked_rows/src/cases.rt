@@ -11,7 +11,7 @@ pub(crate) const CONFIG: &str =
 pub(crate) const PASSING: &str =
     "{\"tests\":[{\"test_name\":\"t\",\"input\":{\"authority\":\"x.com\",\"path\":\"/\"},\"validate\":{\"cluster_name\":\"a\"}}]}";
 
-const FAILING: &str =
+pub(crate) const FAILING: &str =
     "{\"tests\":[{\"test_name\":\"t\",\"input\":{\"authority\":\"x.com\",\"path\":\"/\"},\"validate\":{\"cluster_name\":\"b\"}}]}";
 
 const EXPECTS_NOTHING: &str =
@@ -20,7 +20,7 @@ const EXPECTS_NOTHING: &str =
 pub(crate) const PASS_LINES: &str =
     "{\"failures\":[],\"test\":\"t\",\"verdict\":\"pass\"}\n{\"covered\":1,\"failed\":0,\"routes\":1,\"tests\":1}\n";
 
-const FAIL_LINES: &str =
+pub(crate) const FAIL_LINES: &str =
     "{\"failures\":[{\"actual\":\"a\",\"expected\":\"b\",\"field\":\"cluster_name\"}],\"test\":\"t\",\"verdict\":\"fail\"}\n{\"covered\":1,\"failed\":1,\"routes\":1,\"tests\":1}\n";
 
 /// A map of the two files `c` and `t`.
@@ -127,7 +127,7 @@ fn a_byte_at_a_time(rt: HostRuntime) -> Result<(), Fail> {
 #[test]
 fn words_that_are_no_call(rt: HostRuntime) -> Result<(), Fail> {
     let alloc = rt.alloc();
-    let lists: [&[&str]; 7] = [
+    let lists: [&[&str]; 12] = [
         &[],
         &["check"],
         &["check", "c"],
@@ -135,6 +135,11 @@ fn words_that_are_no_call(rt: HostRuntime) -> Result<(), Fail> {
         &["check", "", "t"],
         &["check", "c", "-t"],
         &["chek", "c", "t"],
+        &["--fail-under=0", "check", "c", "t"],
+        &["check", "c", "t", "--fail-under=101"],
+        &["check", "c", "t", "--fail-under=05"],
+        &["check", "c", "t", "--fail-under=5", "--fail-under=5"],
+        &["check", "c", "t", "--only-show-failures=true"],
     ];
     for list in lists {
         let (status, bytes) = outcome(alloc, list, CONFIG, PASSING, 4096)?;

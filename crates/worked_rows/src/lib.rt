@@ -10,8 +10,14 @@ mod cases;
 #[cfg(test)]
 mod faults;
 #[cfg(test)]
+mod headers;
+#[cfg(test)]
+mod options;
+#[cfg(test)]
 mod parts;
 #[cfg(test)]
 mod refusals;
 #[cfg(test)]
 mod rules;
+#[cfg(test)]
+mod trees;

@@ -14,7 +14,12 @@ fn refusal_line(alloc: Global, file: &str, kind: &str, place: &str) -> Result<St
 }
 
 /// Whether the files are refused with this line.
-fn is_refused(alloc: Global, config: &str, tests: &str, line: &str) -> Result<bool, OutOfMemory> {
+pub(crate) fn is_refused(
+    alloc: Global,
+    config: &str,
+    tests: &str,
+    line: &str,
+) -> Result<bool, OutOfMemory> {
     let (status, bytes) = outcome(alloc, &["check", "c", "t"], config, tests, 4096)?;
     Ok(status == Status::Refused && bytes.as_slice() == line.as_bytes())
 }
@@ -48,7 +53,13 @@ fn row_holds(
 }
 
 /// Fails with the first row that doesn't hold.
-fn all_hold(alloc: Global, file: &str, rows: &str, front: &str, behind: &str) -> Result<(), Fail> {
+pub(crate) fn all_hold(
+    alloc: Global,
+    file: &str,
+    rows: &str,
+    front: &str,
+    behind: &str,
+) -> Result<(), Fail> {
     for row in rows.lines() {
         if !row_holds(alloc, file, row, front, behind)? {
             return Err(Fail::new(row));
@@ -87,7 +98,8 @@ Missing /tests/0/test_name: {"tests":[{}]}
 Missing /tests/0/validate: {"tests":[{"test_name":"t","input":{"authority":"x.com","path":"/"},"validate":{}}]}
 BadText /tests/0/input/method: {"tests":[{"test_name":"t","input":{"authority":"x.com","path":"/","method":"G T"},"validate":{"cluster_name":"a"}}]}
 BadText /tests/0/input/additional_request_headers/0/key: {"tests":[{"test_name":"t","input":{"authority":"x.com","path":"/","additional_request_headers":[{"key":":path"}]},"validate":{"cluster_name":"a"}}]}
-NotInProfile /tests/0/validate/virtual_cluster_name: {"tests":[{"test_name":"t","input":{"authority":"x.com","path":"/"},"validate":{"virtual_cluster_name":""}}]}"#;
+Missing /tests/0/validate: {"tests":[{"test_name":"t","input":{"authority":"x.com","path":"/"},"validate":{"request_header_matches":[]}}]}
+WrongKind /tests/0/validate/virtual_cluster_name: {"tests":[{"test_name":"t","input":{"authority":"x.com","path":"/"},"validate":{"virtual_cluster_name":1}}]}"#;
 
 #[test]
 fn each_kind_of_offence_has_its_place(rt: HostRuntime) -> Result<(), Fail> {

@@ -5,6 +5,21 @@ use std::alloc::Global;
 use std::test::Fail;
 use text_base::OutOfMemory;
 
+/// Whether the test of this input passes over the configuration, where it expects what `validate` says.
+pub(crate) fn meets(
+    alloc: Global,
+    config: &str,
+    validate: &str,
+    input: &str,
+) -> Result<bool, OutOfMemory> {
+    let tests = format!(in alloc;
+        "{}{input}{}{validate}{}",
+        r#"{"tests":[{"test_name":"t","input":"#, r#","validate":"#, "}]}"
+    )?;
+    let (status, _) = outcome(alloc, &["check", "c", "t"], config, tests.as_str(), 4096)?;
+    Ok(status == Status::Done)
+}
+
 /// Whether the test of this input passes over the configuration, where it validates that the field is `want`.
 fn passes(
     alloc: Global,
@@ -13,12 +28,8 @@ fn passes(
     want: &str,
     input: &str,
 ) -> Result<bool, OutOfMemory> {
-    let tests = format!(in alloc;
-        "{}{input}{}{field}{}{want}{}",
-        r#"{"tests":[{"test_name":"t","input":"#, r#","validate":{""#, r#"":""#, r#""}}]}"#
-    )?;
-    let (status, _) = outcome(alloc, &["check", "c", "t"], config, tests.as_str(), 4096)?;
-    Ok(status == Status::Done)
+    let validate = format!(in alloc; "{}{field}{}{want}{}", r#"{""#, r#"":""#, r#""}"#)?;
+    meets(alloc, config, validate.as_str(), input)
 }
 
 /// Fails with the first row `WANT INPUT` whose test fails over the configuration, where WANT is what the field is to be.
