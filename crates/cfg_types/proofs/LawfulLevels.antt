@@ -23,7 +23,7 @@ use Rattle.cfg_types.proofs.Members.{All-at, Has-get}
 
 -- ---- hosts, routes and shares
 
-body-lawful : (b : Body) → IsLawfulBody b → All IsLawfulRoute (body_routes b)
+pub body-lawful : (b : Body) → IsLawfulBody b → All IsLawfulRoute (body_routes b)
 body-lawful (body.List rs) l = l.routes
 body-lawful (body.Tree t) l = l.routes
 

@@ -69,7 +69,7 @@ fn length_of(domain: &Domain) -> usize
     }
 }
 
-fn ranks_before(first: &Domain, second: &Domain) -> bool
+pub fn ranks_before(first: &Domain, second: &Domain) -> bool
     ensures { result ≡ is_before first.now second.now }
 {
     kind_of(first) < kind_of(second)

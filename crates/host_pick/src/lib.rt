@@ -6,4 +6,5 @@ mod domains;
 mod hosts;
 
 pub use authority::host_text;
+pub use domains::ranks_before;
 pub use hosts::Hosts;

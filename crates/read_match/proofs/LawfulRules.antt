@@ -1,19 +1,21 @@
 -- Rules that are read are lawful.
-use Rattle.std.proofs.Common.{◌≡◌, ◌≤◌, ℕ, List, [], ◌∷◌, length, Bool, true, false, not, ◌&&◌, ◌||◌, ◌==◌, if◌then◌else◌, Option, Some, None, IfOk, IsTrue, Ok, Err, refl, arith, nat_le, ℤ}
+use Rattle.std.proofs.Common.{◌≡◌, ◌≤◌, ℕ, List, [], ◌∷◌, length, Bool, true, false, not, ◌&&◌, ◌||◌, ◌==◌, if◌then◌else◌, Option, Some, None, IfOk, IsTrue, Ok, Err, refl, arith, nat_le, ℤ, pos, negsuc, leb-true}
 use Rattle.std.specs.List.{list_any}
-use Rattle.std.specs.Prelude.{All, IfSome, unwrap_or}
+use Rattle.std.specs.Prelude.{All, IfSome, unwrap_or, FitsSigned, int_le}
+use Rattle.std.specs.Int.{w64}
+use Rattle.std.proofs.lemmas.Bool.{and_parts}
 use Rattle.std.proofs.lemmas.List.Elements.{All-nil}
 use Rattle.serde_json.specs.Data.{Data}
 use Rattle.json_tables.specs.declared.message.Message.TheVariants as messages
 use Rattle.json_tables.specs.Names as name
 use Rattle.text_base.specs.Forms.{ends}
-use Rattle.json_walk.specs.declared.refusal.Kind.TheVariants.{TooMany, BadText}
-use Rattle.json_walk.specs.Outcome.{offence}
+use Rattle.json_walk.specs.declared.refusal.Kind.TheVariants.{TooMany, BadText, WrongKind, OutOfRange}
+use Rattle.json_walk.specs.Outcome.{offence, or_offence}
 use Rattle.json_walk.specs.Places.{under}
 use Rattle.json_walk.specs.Members.{members_at}
 use Rattle.json_walk.specs.Fields.{optional, required, alone, must}
 use Rattle.json_walk.specs.Leaves.{truth, choice, list_of}
-use Rattle.json_walk.specs.Numbers.{count}
+use Rattle.json_walk.specs.Numbers.{count, whole, number_said}
 use Rattle.json_walk.proofs.ReadFacts.{Reads, after, whatever, where_false, of_required, of_optional, of_maybe, of_list}
 use Rattle.cfg_types.specs.Lawful.{IsLawfulPattern, IsLawfulForm, IsLawfulText, IsLawfulPath, IsLawfulValue, IsLawfulHeader, IsLawfulQuery, IsLawfulFraction, IsLawfulRule}
 use Rattle.cfg_types.specs.Kinds.{is_path_text, is_separated_text, is_query_name}
@@ -119,19 +121,50 @@ of_value_forms p d =
     after (optional p d name.string_match string_matcher) _ (λ o. IfSome o IsLawfulText) (λ o. IfSome o IsLawfulText) (of_maybe p d name.string_match string_matcher IsLawfulText of_text_rule) (λ r q.
     after (plain_forms p d) _ (λ o. IfSome o IsLawfulForm) (λ o. IfSome o IsLawfulText) (of_plain_forms p d) (λ o a. value_is r o q a))
 
-header_form_is : (v : Option TextRule) (r : Option (ℤ × ℤ)) (b : Option Bool) → IfSome v IsLawfulText → IsLawfulValue (header_form v r b)
+abbrev Is64 : ℤ → Type 0
+Is64 n = FitsSigned w64 n
+
+-- both bounds of a range have 64 bits
+abbrev IsRange : ℤ × ℤ → Type 0
+IsRange x = Is64 x.0 × Is64 x.1
+
+fits_64 : (n : ℤ) → int_le (negsuc 9223372036854775807) n ≡ true → int_le n (pos 9223372036854775807) ≡ true → Is64 n
+fits_64 (pos n) a b = record { sfits = let k = leb-true n 9223372036854775807 b in omega (arith, k) }
+fits_64 (negsuc n) a b = record { sfits = let k = leb-true n 9223372036854775807 a in omega (arith, k) }
+
+of_int64 : Reads Is64 (whole (negsuc 9223372036854775807) (pos 9223372036854775807))
+unfolding whole
+of_int64 p d = whatever (or_offence p WrongKind (number_said d)) _ Is64 (λ n. step p n (int_le (negsuc 9223372036854775807) n && int_le n (pos 9223372036854775807)) refl)
+  where
+    step : (p : List ℕ) (n : ℤ) (v : Bool) → (int_le (negsuc 9223372036854775807) n && int_le n (pos 9223372036854775807)) ≡ v → IfOk (if v then Ok n else offence p OutOfRange) Is64
+    step p n true e = let k = and_parts (int_le (negsuc 9223372036854775807) n) (int_le n (pos 9223372036854775807)) e in fits_64 n k.0 k.1
+    step p n false e = tt
+
+bound_is : (o : Option ℤ) → IfSome o Is64 → Is64 (unwrap_or o (pos 0))
+bound_is None h = record { sfits = omega arith }
+bound_is (Some n) h = h
+
+of_int_range : Reads IsRange int_range
+unfolding int_range
+of_int_range p d =
+    whatever (members_at messages.Int64Range p d) _ IsRange (λ _.
+    after (optional p d name.start (whole (negsuc 9223372036854775807) (pos 9223372036854775807))) _ (λ o. IfSome o Is64) IsRange (of_maybe p d name.start (whole (negsuc 9223372036854775807) (pos 9223372036854775807)) Is64 of_int64) (λ s a.
+    after (optional p d name.end (whole (negsuc 9223372036854775807) (pos 9223372036854775807))) _ (λ o. IfSome o Is64) IsRange (of_maybe p d name.end (whole (negsuc 9223372036854775807) (pos 9223372036854775807)) Is64 of_int64) (λ e b.
+    (bound_is s a, bound_is e b))))
+
+header_form_is : (v : Option TextRule) (r : Option (ℤ × ℤ)) (b : Option Bool) → IfSome v IsLawfulText → IfSome r IsRange → IsLawfulValue (header_form v r b)
 unfolding header_form
-header_form_is (Some t) r b h = h
-header_form_is None (Some x) b h = tt
-header_form_is None None (Some x) h = tt
-header_form_is None None None h = tt
+header_form_is (Some t) r b h k = h
+header_form_is None (Some x) b h k = k
+header_form_is None None (Some x) h k = tt
+header_form_is None None None h k = tt
 
 of_header_forms : Reads IsLawfulValue header_forms
 unfolding header_forms
 of_header_forms p d =
     after (value_forms p d) _ (λ o. IfSome o IsLawfulText) IsLawfulValue (of_value_forms p d) (λ v h.
-    whatever (optional p d name.range_match int_range) _ IsLawfulValue (λ r.
-    whatever (optional p d name.present_match truth) _ IsLawfulValue (λ b. header_form_is v r b h)))
+    after (optional p d name.range_match int_range) _ (λ o. IfSome o IsRange) IsLawfulValue (of_maybe p d name.range_match int_range IsRange of_int_range) (λ r k.
+    whatever (optional p d name.present_match truth) _ IsLawfulValue (λ b. header_form_is v r b h k)))
 
 pub of_header : Reads IsLawfulHeader header_matcher
 unfolding header_matcher

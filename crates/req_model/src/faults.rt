@@ -76,7 +76,9 @@ fn is_reserved(name: &[u8]) -> bool
         || name == b"x-envoy-internal".as_slice()
 }
 
-fn is_header_name(name: &[u8]) -> bool
+/// Whether a header of a request may have the name: a token in lower case that stands for no part of the request. Takes no
+/// memory.
+pub fn is_header_name(name: &[u8]) -> bool
     ensures { result ≡ rule.is_header_name name.now }
 {
     match name {

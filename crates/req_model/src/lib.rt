@@ -8,6 +8,7 @@ mod query;
 mod request;
 mod search;
 
+pub use faults::is_header_name;
 pub use joined::{Joined, join};
 pub use request::Request;
 pub use text_base::{BadRequest, Field, Heads, OutOfMemory, Parts, Text};

@@ -1,0 +1,15 @@
+pub mod Fields
+pub mod Formulas
+pub mod Valid
+pub mod Digests
+pub mod Goals
+pub mod Numbers
+pub mod Conditions
+pub mod Refutations
+pub mod Waiting
+pub mod Unfinished
+pub mod Trails
+pub mod Shown
+pub mod Bounds
+pub mod Leaves
+pub mod Meant

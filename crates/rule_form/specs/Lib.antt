@@ -1,0 +1,4 @@
+pub mod Terms
+pub mod Conditions
+pub mod Leaves
+pub mod Laws
