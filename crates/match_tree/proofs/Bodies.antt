@@ -19,7 +19,7 @@ use Rattle.match_tree.specs.Builds.{spans_from, sizes}
 
 -- ---- outcomes of places in a row
 
-behind_behind : (a b : ℕ) (o : Option Span) → behind a (behind b o) ≡ behind (a + b) o
+pub behind_behind : (a b : ℕ) (o : Option Span) → behind a (behind b o) ≡ behind (a + b) o
 behind_behind a b None = refl
 behind_behind a b (Some s) = let e : a + (b + s.0) ≡ a + b + s.0 = omega arith in ap (λ n. Some (n, s.1)) e
 
@@ -77,16 +77,16 @@ module _ (q : Asked) where
   pub key-is : (k : KeyThen) → key_way q k ≡ (k.key, then_place q k.next)
   key-is k = first_of (search (rules, folds.the_lemmas), grind (arith, folds.the_lemmas))
 
-  body-Bare : body_ways q Bare ≡ ways []
+  pub body-Bare : body_ways q Bare ≡ ways []
   body-Bare = first_of (search (rules, folds.the_lemmas), grind (arith, folds.the_lemmas))
 
-  body-List : (es : List Entry) → body_ways q (Entries es) ≡ ways (map (entry_way q) es)
+  pub body-List : (es : List Entry) → body_ways q (Entries es) ≡ ways (map (entry_way q) es)
   body-List es = first_of (search (rules, folds.the_lemmas), grind (arith, folds.the_lemmas))
 
-  body-Exact : (i : InputRule) (ks : List KeyThen) → body_ways q (Exact i ks) ≡ ways (map (λ k. (equal_key (input_of i q) k.0, k.1)) (map (key_way q) ks))
+  pub body-Exact : (i : InputRule) (ks : List KeyThen) → body_ways q (Exact i ks) ≡ ways (map (λ k. (equal_key (input_of i q) k.0, k.1)) (map (key_way q) ks))
   body-Exact i ks = first_of (search (rules, folds.the_lemmas), grind (arith, folds.the_lemmas))
 
-  body-Prefix : (i : InputRule) (ks : List KeyThen) → body_ways q (Prefix i ks) ≡ ways (map (λ k. (longest_key (input_of i q) (map (key_way q) ks) k.0, k.1)) (map (key_way q) ks))
+  pub body-Prefix : (i : InputRule) (ks : List KeyThen) → body_ways q (Prefix i ks) ≡ ways (map (λ k. (longest_key (input_of i q) (map (key_way q) ks) k.0, k.1)) (map (key_way q) ks))
   body-Prefix i ks = first_of (search (rules, folds.the_lemmas), grind (arith, folds.the_lemmas))
 
   pub tree-is : (t : Tree) → tree_place q t ≡ record {

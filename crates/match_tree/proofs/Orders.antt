@@ -46,7 +46,7 @@ byte-chain (x ∷ a) (y ∷ b) [] e f = absurd (cc f)
 byte-chain (x ∷ a) (y ∷ b) (z ∷ c) e f =
     step_less x z (byte_order a c) (chain x y z _ _ _ (byte-chain a b c) (less_step x y (byte_order a b) e) (less_step y z (byte_order b c) f))
 
-length_step : (a b : Bytes) → longer_first a b ≡ true → (length b < length a) ⊎ ((length a ≡ length b) × (byte_order a b ≡ true))
+pub length_step : (a b : Bytes) → longer_first a b ≡ true → (length b < length a) ⊎ ((length a ≡ length b) × (byte_order a b ≡ true))
 length_step a b e = by (nat_lt (length b) (length a)) (length a == length b) refl refl e
   where
     by : (l s : Bool) → nat_lt (length b) (length a) ≡ l → (length a == length b) ≡ s → (l || (s && byte_order a b)) ≡ true → (length b < length a) ⊎ ((length a ≡ length b) × (byte_order a b ≡ true))
