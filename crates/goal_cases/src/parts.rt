@@ -28,23 +28,27 @@ fn add_ranks(text: &mut String, domain: &Domain, domains: &[Domain]) -> Result<(
     text.push('\n')
 }
 
+/// Adds the domain as it is written.
+fn add_written(alloc: Global, text: &mut String, domain: &Domain) -> Result<(), OutOfMemory> {
+    let written = domain.written(alloc)?;
+    text.push_str(written.as_str())
+}
+
 /// Each domain as it is written, and a sign for each domain.
-fn told_domains(alloc: Global, domains: &[Domain]) -> Result<String, OutOfMemory> {
-    let mut text = String::new(alloc);
+fn add_domains(alloc: Global, text: &mut String, domains: &[Domain]) -> Result<(), OutOfMemory> {
     for domain in domains {
-        text.push_str(domain.written(alloc)?.as_str())?;
+        add_written(alloc, text, domain)?;
         text.push(' ')?;
-        add_ranks(&mut text, domain, domains)?;
+        add_ranks(text, domain, domains)?;
     }
-    Ok(text)
+    Ok(())
 }
 
 /// The domains of all hosts.
 fn hosts_told(alloc: Global, hosts: &[Host]) -> Result<String, OutOfMemory> {
     let mut text = String::new(alloc);
     for host in hosts {
-        let told = told_domains(alloc, host.domains.as_slice())?;
-        text.push_str(told.as_str())?;
+        add_domains(alloc, &mut text, host.domains.as_slice())?;
     }
     Ok(text)
 }
@@ -144,6 +148,18 @@ fn is_goal_of(
     Ok(own.as_str() == same.as_str())
 }
 
+/// Whether all these goals are those of their routes.
+fn all_are_goals_of(alloc: Global, config: &Config, goals: &HostGoals) -> Result<bool, OutOfMemory>
+    requires { IsLawful config.now }
+{
+    for at in 0..goals.count() {
+        if !is_goal_of(alloc, config, goals, at)? {
+            return Ok(false);
+        }
+    }
+    Ok(true)
+}
+
 /// Whether all goals of the first host are those of its routes.
 fn are_goals_of(alloc: Global, config: &Config) -> Result<bool, OutOfMemory>
     requires { IsLawful config.now }
@@ -152,12 +168,7 @@ fn are_goals_of(alloc: Global, config: &Config) -> Result<bool, OutOfMemory>
         return Ok(false);
     }
     let goals = HostGoals::build(alloc, config, 0, 0)?;
-    for at in 0..goals.count() {
-        if !is_goal_of(alloc, config, &goals, at)? {
-            return Ok(false);
-        }
-    }
-    Ok(true)
+    all_are_goals_of(alloc, config, &goals)
 }
 
 /// The guards of each host.

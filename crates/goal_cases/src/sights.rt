@@ -15,30 +15,55 @@ use rule_form::{
 use rule_sight::{FractionSight, GrpcSight, HeaderSight, PathSight, QuerySight, RouteSight};
 use std::alloc::Global;
 use std::test::Fail;
+use test_read::Test;
 use text_base::OutOfMemory;
 
-/// Whether the sight holds on the request: `y` or `n`, or `?` where its formula isn't the one over these atoms, or is true
-/// where the sight doesn't hold, or the other way round.
+/// Whether the sight holds on the request.
+fn holds_at<S: Sight>(alloc: Global, sight: &S, request: &Request) -> Result<bool, OutOfMemory> {
+    let mut scratch = Scratch::new(alloc, sight.room())?;
+    Ok(sight.holds(request, &mut scratch))
+}
+
+/// Whether the formula over the atoms is told so.
+fn is_told(
+    alloc: Global,
+    formula: &Formula,
+    atoms: &Atoms,
+    want: &str,
+) -> Result<bool, OutOfMemory> {
+    let text = told(alloc, formula, atoms)?;
+    Ok(text.as_str() == want)
+}
+
+/// Whether the sight holds on the request: `y` or `n`, or `?` where its formula isn't told so, or is true where the sight
+/// doesn't hold, or the other way round.
 fn sign_of<S: Sight>(
     alloc: Global,
     sight: &S,
-    formula: &Formula,
-    atoms: &Atoms,
+    want: &str,
     request: &Request,
 ) -> Result<char, OutOfMemory>
     requires { S.lawful sight.now }
 {
-    let mut scratch = Scratch::new(alloc, sight.room())?;
-    let holds = sight.holds(request, &mut scratch);
-    let mut own = Atoms::new(alloc);
-    let told_by = sight.formula(alloc, &mut own)?;
-    let same = told(alloc, &told_by, &own)?.as_str() == told(alloc, formula, atoms)?.as_str();
-    let truth = truth_at(alloc, &told_by, &own, request)?;
+    let holds = holds_at(alloc, sight, request)?;
+    let mut atoms = Atoms::new(alloc);
+    let formula = sight.formula(alloc, &mut atoms)?;
+    let same = is_told(alloc, &formula, &atoms, want)?;
+    let truth = truth_at(alloc, &formula, &atoms, request)?;
     Ok(match truth {
         Truth::Yes if same && holds => 'y',
         Truth::No if same && !holds => 'n',
         _ => '?',
     })
+}
+
+/// The formula of the rule, told whole.
+fn told_path(alloc: Global, rule: &PathRule, fold: bool) -> Result<String, OutOfMemory>
+    requires { IsLawfulPath rule.now }
+{
+    let mut atoms = Atoms::new(alloc);
+    let formula = path_formula(alloc, rule, fold, false, &mut atoms)?;
+    told(alloc, &formula, &atoms)
 }
 
 fn path_sign(
@@ -49,59 +74,91 @@ fn path_sign(
 ) -> Result<char, OutOfMemory>
     requires { IsLawfulPath rule.now }
 {
-    let mut atoms = Atoms::new(alloc);
-    let formula = path_formula(alloc, rule, fold, false, &mut atoms)?;
+    let want = told_path(alloc, rule, fold)?;
     let test = PathTest::build(alloc, rule, fold, false)?;
     let sight = PathSight::of(&test, rule, fold, false);
-    sign_of(alloc, &sight, &formula, &atoms, request)
+    sign_of(alloc, &sight, want.as_str(), request)
+}
+
+fn told_header(alloc: Global, rule: &HeaderRule) -> Result<String, OutOfMemory>
+    requires { IsLawfulHeader rule.now }
+{
+    let mut atoms = Atoms::new(alloc);
+    let formula = header_formula(alloc, rule, &mut atoms)?;
+    told(alloc, &formula, &atoms)
 }
 
 fn header_sign(alloc: Global, rule: &HeaderRule, request: &Request) -> Result<char, OutOfMemory>
     requires { IsLawfulHeader rule.now }
 {
-    let mut atoms = Atoms::new(alloc);
-    let formula = header_formula(alloc, rule, &mut atoms)?;
+    let want = told_header(alloc, rule)?;
     let test = HeaderTest::build(alloc, rule)?;
     let sight = HeaderSight::of(&test, rule);
-    sign_of(alloc, &sight, &formula, &atoms, request)
+    sign_of(alloc, &sight, want.as_str(), request)
+}
+
+fn told_query(alloc: Global, rule: &QueryRule) -> Result<String, OutOfMemory>
+    requires { IsLawfulQuery rule.now }
+{
+    let mut atoms = Atoms::new(alloc);
+    let formula = query_formula(alloc, rule, &mut atoms)?;
+    told(alloc, &formula, &atoms)
 }
 
 fn query_sign(alloc: Global, rule: &QueryRule, request: &Request) -> Result<char, OutOfMemory>
     requires { IsLawfulQuery rule.now }
 {
-    let mut atoms = Atoms::new(alloc);
-    let formula = query_formula(alloc, rule, &mut atoms)?;
+    let want = told_query(alloc, rule)?;
     let test = QueryTest::build(alloc, rule)?;
     let sight = QuerySight::of(&test, rule);
-    sign_of(alloc, &sight, &formula, &atoms, request)
+    sign_of(alloc, &sight, want.as_str(), request)
+}
+
+fn told_grpc(alloc: Global) -> Result<String, OutOfMemory> {
+    let mut atoms = Atoms::new(alloc);
+    let formula = grpc_formula(alloc, &mut atoms)?;
+    told(alloc, &formula, &atoms)
 }
 
 fn grpc_sign(alloc: Global, request: &Request) -> Result<char, OutOfMemory> {
-    let mut atoms = Atoms::new(alloc);
-    let formula = grpc_formula(alloc, &mut atoms)?;
+    let want = told_grpc(alloc)?;
     let test = GrpcTest::build(alloc)?;
     let sight = GrpcSight::of(&test);
-    sign_of(alloc, &sight, &formula, &atoms, request)
+    sign_of(alloc, &sight, want.as_str(), request)
+}
+
+fn told_fraction(alloc: Global, rule: &Fraction) -> Result<String, OutOfMemory>
+    requires { IsLawfulFraction rule.now }
+{
+    let mut atoms = Atoms::new(alloc);
+    let formula = fraction_formula(alloc, rule, &mut atoms)?;
+    told(alloc, &formula, &atoms)
 }
 
 fn fraction_sign(alloc: Global, rule: &Fraction, request: &Request) -> Result<char, OutOfMemory>
     requires { IsLawfulFraction rule.now }
 {
-    let mut atoms = Atoms::new(alloc);
-    let formula = fraction_formula(alloc, rule, &mut atoms)?;
+    let want = told_fraction(alloc, rule)?;
     let test = FractionTest::build(alloc, rule)?;
     let sight = FractionSight::of(&test, rule);
-    sign_of(alloc, &sight, &formula, &atoms, request)
+    sign_of(alloc, &sight, want.as_str(), request)
+}
+
+fn told_rule(alloc: Global, rule: &RouteRule) -> Result<String, OutOfMemory>
+    requires { IsLawfulRule rule.now }
+{
+    let mut atoms = Atoms::new(alloc);
+    let formula = rule_formula(alloc, rule, false, &mut atoms)?;
+    told(alloc, &formula, &atoms)
 }
 
 fn route_sign(alloc: Global, rule: &RouteRule, request: &Request) -> Result<char, OutOfMemory>
     requires { IsLawfulRule rule.now }
 {
-    let mut atoms = Atoms::new(alloc);
-    let formula = rule_formula(alloc, rule, false, &mut atoms)?;
+    let want = told_rule(alloc, rule)?;
     let test = RouteTest::build(alloc, rule, false)?;
     let sight = RouteSight::of(&test, rule, false);
-    sign_of(alloc, &sight, &formula, &atoms, request)
+    sign_of(alloc, &sight, want.as_str(), request)
 }
 
 /// Adds the signs of header rules.
@@ -185,14 +242,22 @@ fn add_hosts(
     Ok(())
 }
 
+/// The signs of the rules of hosts at the requests of tests.
+fn signs_at(alloc: Global, hosts: &[Host], tests: &[Test]) -> Result<String, OutOfMemory>
+    requires { All IsLawfulHost hosts.now }
+{
+    let mut text = String::new(alloc);
+    for test in tests {
+        add_hosts(alloc, &mut text, hosts, &test.request)?;
+    }
+    Ok(text)
+}
+
 /// The signs of the rules of the configuration of this line at the request of this input.
 fn signs(alloc: Global, config: &str, input: &str) -> Result<String, Fail> {
     let config = config_of(alloc, config)?;
-    let mut text = String::new(alloc);
-    for test in tests_of(alloc, input)?.as_slice() {
-        add_hosts(alloc, &mut text, config.hosts.as_slice(), &test.request)?;
-    }
-    Ok(text)
+    let tests = tests_of(alloc, input)?;
+    Ok(signs_at(alloc, config.hosts.as_slice(), tests.as_slice())?)
 }
 
 /// A route with rules of all kinds.

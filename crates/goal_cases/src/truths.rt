@@ -1,5 +1,7 @@
 // Goals at requests, beside where the requests are sent.
+ghost use Rattle.std.specs.Prelude.{◌<◌, length};
 ghost use Rattle.cfg_types.specs.Lawful.{IsLawful};
+ghost use Rattle.cfg_types.specs.Order.{routes};
 
 use crate::languages::is_in;
 use crate::made::{config_of, tests_of};
@@ -11,6 +13,7 @@ use route_scan::{Router, Scan, choose_by_rules, room_of, rule_tests};
 use rx_auto::Scratch;
 use std::alloc::Global;
 use std::test::Fail;
+use test_read::Test;
 use text_base::OutOfMemory;
 
 /// Whether the atom is true at the request.
@@ -38,14 +41,27 @@ pub(crate) fn truth_at(
     Ok(value(formula, &path))
 }
 
+/// Whether the goal of the route is true at the request.
+fn is_reached(
+    alloc: Global,
+    config: &Config,
+    route: u32,
+    request: &Request,
+) -> Result<bool, OutOfMemory>
+    requires lawful { IsLawful config.now }
+    requires within { route < length (routes config.now) }
+{
+    let goal = goal(alloc, config, route)?;
+    Ok(truth_at(alloc, &goal.formula, &goal.atoms, request)? == Truth::Yes)
+}
+
 /// The routes whose goals are true at the request.
 fn reached(alloc: Global, config: &Config, request: &Request) -> Result<String, OutOfMemory>
     requires { IsLawful config.now }
 {
     let mut text = String::new(alloc);
     for route in 0..config.route_count() {
-        let goal = goal(alloc, config, route)?;
-        if truth_at(alloc, &goal.formula, &goal.atoms, request)? == Truth::Yes {
+        if is_reached(alloc, config, route, request)? {
             let told = format!(in alloc; "{route}")?;
             text.push_str(told.as_str())?;
         }
@@ -53,12 +69,17 @@ fn reached(alloc: Global, config: &Config, request: &Request) -> Result<String, 
     Ok(text)
 }
 
-/// The route that the request is sent to, if there is one.
-fn sent(alloc: Global, config: &Config, request: &Request) -> Result<String, OutOfMemory> {
+/// What is chosen for the request by rules.
+fn choice_of(alloc: Global, config: &Config, request: &Request) -> Result<Choice, OutOfMemory> {
     let scan = Scan::build(alloc, config)?;
     let tests = rule_tests(alloc, config)?;
     let mut scratch = Scratch::new(alloc, room_of(&tests).max(scan.room()))?;
-    match choose_by_rules(&scan, &tests, request, &mut scratch) {
+    Ok(choose_by_rules(&scan, &tests, request, &mut scratch))
+}
+
+/// The route that the request is sent to, if there is one.
+fn sent(alloc: Global, config: &Config, request: &Request) -> Result<String, OutOfMemory> {
+    match choice_of(alloc, config, request)? {
         Choice::Chosen { route } => format!(in alloc; "{route}"),
         _ => Ok(String::new(alloc)),
     }
@@ -73,15 +94,23 @@ fn told_both(alloc: Global, config: &Config, request: &Request) -> Result<String
     format!(in alloc; "[{}] [{}]", reached.as_str(), sent.as_str())
 }
 
-/// The same of the request of this input by the configuration of this line.
-fn both(alloc: Global, config: &str, input: &str) -> Result<String, Fail> {
-    let config = config_of(alloc, config)?;
+/// The same of the requests of tests.
+fn told_all(alloc: Global, config: &Config, tests: &[Test]) -> Result<String, OutOfMemory>
+    requires { IsLawful config.now }
+{
     let mut text = String::new(alloc);
-    for test in tests_of(alloc, input)?.as_slice() {
-        let told = told_both(alloc, &config, &test.request)?;
+    for test in tests {
+        let told = told_both(alloc, config, &test.request)?;
         text.push_str(told.as_str())?;
     }
     Ok(text)
+}
+
+/// The same of the request of this input by the configuration of this line.
+fn both(alloc: Global, config: &str, input: &str) -> Result<String, Fail> {
+    let config = config_of(alloc, config)?;
+    let tests = tests_of(alloc, input)?;
+    Ok(told_all(alloc, &config, tests.as_slice())?)
 }
 
 /// Whether the row `ROUTE <- INPUT` is so by the configuration. No route is `-`.

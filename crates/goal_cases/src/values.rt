@@ -1,5 +1,5 @@
 // What goals are worth on paths, and their atoms by number.
-ghost use Rattle.std.specs.Prelude.{◌≡◌, IfOk};
+ghost use Rattle.std.specs.Prelude.{◌≡◌, ◌≤◌, length, IfOk};
 ghost use Rattle.cfg_types.specs.Lawful.{IsLawful};
 
 use crate::made::config_of;
@@ -75,6 +75,16 @@ fn worth(goal: &Goal, trail: &Trail) -> (Truth, u32) {
     }
 }
 
+/// The same on the path of these steps.
+fn worth_on(
+    alloc: Global,
+    goal: &Goal,
+    steps: [Option<(u32, bool)>; 2],
+) -> Result<(Truth, u32), OutOfMemory> {
+    let trail = trail_of(alloc, goal.atoms.count(), steps)?;
+    Ok(worth(goal, &trail))
+}
+
 /// The steps of a path, and what the goal is worth there: known, or open by an atom.
 type PathRow = ([Option<(u32, bool)>; 2], Truth, u32);
 
@@ -94,8 +104,7 @@ const PATHS: [PathRow; 8] = [
 fn a_goal_is_worth_what_its_path_decides(rt: HostRuntime) -> Result<(), Fail> {
     let goal = goal_of(rt.alloc(), 1)?;
     for (steps, truth, atom) in PATHS {
-        let trail = trail_of(rt.alloc(), goal.atoms.count(), steps)?;
-        let (found, open) = worth(&goal, &trail);
+        let (found, open) = worth_on(rt.alloc(), &goal, steps)?;
         assert!(rt; found == truth);
         assert_eq!(rt; open, atom);
     }
@@ -121,6 +130,18 @@ fn claims(goal: &Goal, atom: u32, holds: bool, header: &Field) -> (bool, bool, b
     )
 }
 
+/// The same of the header of this name.
+fn claims_of(
+    alloc: Global,
+    goal: &Goal,
+    atom: u32,
+    holds: bool,
+    name: &str,
+) -> Result<(bool, bool, bool), OutOfMemory> {
+    let header = Field::Header(Text::of(alloc, name)?);
+    Ok(claims(goal, atom, holds, &header))
+}
+
 /// An atom of the third goal, its truth, the header, and what is said of that.
 const CLAIMS: [(u32, bool, &str, (bool, bool, bool)); 6] = [
     (1, true, "x", (true, false, true)),
@@ -138,34 +159,48 @@ fn a_path_claims_what_its_steps_say(rt: HostRuntime) -> Result<(), Fail> {
     let alloc = rt.alloc();
     let goal = goal_of(alloc, 2)?;
     for (atom, holds, name, want) in CLAIMS {
-        let header = Field::Header(Text::of(alloc, name)?);
-        assert_eq!(rt;
-            claims(&goal, atom, holds, &header),
-            want,
-            "{atom} {holds} {name}"
-        );
+        let found = claims_of(alloc, &goal, atom, holds, name)?;
+        assert_eq!(rt; found, want, "{atom} {holds} {name}");
     }
     assert!(rt; is_required(&goal, &[], &Field::Target) && is_well_formed(&goal));
     assert!(rt; turns(alloc)?);
     Ok(())
 }
 
-/// The number of an atom that is there, the count after it, the number of one that isn't there, and the count after it.
-fn numbers(alloc: Global, atoms: &mut Atoms) -> Result<[u32; 4], OutOfMemory> {
+/// Whether the atom is the second one and not the first.
+fn is_second(atoms: &Atoms, atom: &Atom) -> bool
+    requires { 2 ≤ length atoms.now }
+{
+    same_atom(atom, atoms.at(1)) && !same_atom(atom, atoms.at(0))
+}
+
+/// The number of a copy of the second atom, or 99 where the copy isn't that one.
+fn number_of_copy(alloc: Global, atoms: &mut Atoms) -> Result<u32, OutOfMemory> {
     if atoms.count() < 2 {
-        return Ok([0; 4]);
+        return Ok(99);
     }
     let copy = copy_atom(alloc, atoms.at(1))?;
-    if !same_atom(&copy, atoms.at(1)) || same_atom(&copy, atoms.at(0)) {
-        return Ok([1; 4]);
+    if !is_second(atoms, &copy) {
+        return Ok(99);
     }
-    let (found, count) = (atoms.number(copy)?, atoms.count());
-    let marked = Atom::Within {
+    atoms.number(copy)
+}
+
+/// The number of an atom that isn't there.
+fn number_of_another(atoms: &mut Atoms) -> Result<u32, OutOfMemory> {
+    atoms.number(Atom::Within {
         field: Field::Target,
         term: Term::Empty,
         user: true,
-    };
-    Ok([found, count, atoms.number(marked)?, atoms.count()])
+    })
+}
+
+/// The number of an atom that is there, the count after it, the number of one that isn't there, and the count after it.
+fn numbers(alloc: Global, atoms: &mut Atoms) -> Result<[u32; 4], OutOfMemory> {
+    let found = number_of_copy(alloc, atoms)?;
+    let count = atoms.count();
+    let another = number_of_another(atoms)?;
+    Ok([found, count, another, atoms.count()])
 }
 
 /// An atom that is there keeps its number, and another one comes after the last.
