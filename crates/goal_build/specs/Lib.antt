@@ -6,3 +6,4 @@ pub mod Goals
 pub mod Parts
 pub mod HostGoals
 pub mod Laws
+pub mod Kept

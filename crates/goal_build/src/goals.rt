@@ -1,6 +1,6 @@
 // The goals of routes.
-ghost use Rattle.std.specs.Prelude.{◌≡◌, ◌<◌, ◌↔◌, length, IfOk, IfSome, IfNone, IsTrue, Contains, Some, slice_get};
-ghost use Rattle.cfg_types.specs.Choices.{IsSent};
+ghost use Rattle.std.specs.Prelude.{◌≡◌, ◌<◌, ◌≤◌, ◌↔◌, length, IfOk, IfSome, IfNone, IsTrue, Contains, Some, slice_get};
+ghost use Rattle.cfg_types.specs.Choices.{IsSent, routes_before};
 ghost use Rattle.cfg_types.specs.Lawful.{IsLawful};
 ghost use Rattle.cfg_types.specs.Order.{routes};
 ghost use Rattle.goal_build.specs.Goals.{IsGoal};
@@ -16,15 +16,18 @@ use goal_form::Goal;
 use std::alloc::Global;
 use text_base::OutOfMemory;
 
-/// The host of a route, and the number of the host's first route.
-fn host_of(config: &Config, route: u32) -> (u32, u32)
+/// The host of a route, and the number of the host's first route. The search begins at a host whose first route has the
+/// number `first` and doesn't come after the route.
+pub fn host_from(config: &Config, route: u32, host: u32, first: u32) -> (u32, u32)
     requires lawful { IsLawful config.now }
     requires within { route < length (routes config.now) }
+    requires first { first ≡ routes_before config.now.hosts host }
+    requires before { first ≤ route }
     ensures { IsPlace config.now route result.0 result.1 }
 {
-    let mut first = 0u32;
-    for (at, host) in config.hosts.as_slice().iter().enumerate() {
-        let Some(count) = host.body.route_count() else {
+    let mut first = first;
+    for at in host as usize..config.hosts.len() {
+        let Some(count) = config.hosts.as_slice()[at].body.route_count() else {
             unreachable!()
         };
         if route - first < count {
@@ -36,7 +39,7 @@ fn host_of(config: &Config, route: u32) -> (u32, u32)
 }
 
 /// The place of the guard of a route.
-fn guard_of(goals: &HostGoals, route: u32) -> usize
+pub fn guard_of(goals: &HostGoals, route: u32) -> usize
     requires { Contains (taken goals.now.guards) (Some route) }
     ensures within { result < length goals.now.guards }
     ensures route { slice_get (taken goals.now.guards) result ≡ Some (Some route) }
@@ -50,7 +53,7 @@ fn guard_of(goals: &HostGoals, route: u32) -> usize
 }
 
 /// The goal of a route: a formula that is true at a request exactly where the request is sent to the route. The goals of all
-/// routes of a host are made faster by `HostGoals`.
+/// routes of a host are made faster by `HostGoals`, those of all routes in order by `KeptGoals`.
 pub fn goal(alloc: Global, config: &Config, route: u32) -> Result<Goal, OutOfMemory>
     requires lawful { IsLawful config.now }
     requires within { route < length (routes config.now) }
@@ -58,7 +61,7 @@ pub fn goal(alloc: Global, config: &Config, route: u32) -> Result<Goal, OutOfMem
     ensures formed { IfOk result IsWellFormed }
     ensures sent { IfOk result (λ g. (q : Asked) → IsTrue (is_valid q) → IsTrue (is_true_at q g) ↔ IsSent config.now q route) }
 {
-    let (host, first) = host_of(config, route);
+    let (host, first) = host_from(config, route, 0, 0);
     let goals = HostGoals::build(alloc, config, host, first)?;
     let at = guard_of(&goals, route);
     goals.goal(alloc, at)

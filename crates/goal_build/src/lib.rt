@@ -4,6 +4,7 @@
 mod goals;
 mod host_goals;
 mod host_parts;
+mod kept;
 mod laws;
 mod numbering;
 mod rivals;
@@ -11,4 +12,5 @@ mod shared;
 
 pub use goals::goal;
 pub use host_goals::HostGoals;
+pub use kept::KeptGoals;
 pub use laws::goal_laws;

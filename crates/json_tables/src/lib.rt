@@ -1,4 +1,4 @@
-//! The messages of a configuration and of a test file, with the members that each may have.
+//! The messages of a configuration, of a test file and of a report, with the members that each may have.
 #![tactic(auto)]
 
 mod carried;

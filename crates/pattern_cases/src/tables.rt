@@ -3,7 +3,7 @@
 ghost use Rattle.std.specs.Prelude.{◌≡◌, length};
 
 use crate::made::{optional_row, row, starred, term_of};
-use rx_auto::{Members, Scratch, StateSet, Table, Words, put};
+use rx_auto::{Members, Scratch, StateSet, Table, Words, follow, put};
 use rx_term::{OutOfMemory, Term};
 use sqlite_items::Items;
 use std::alloc::Global;
@@ -66,15 +66,28 @@ fn steps_are_right(alloc: Global, table: &Table) -> Result<bool, OutOfMemory> {
     Ok(!begun && left && !behind && ended && !left_again && !table.accepts(&state))
 }
 
-/// Where `/` and a letter lead from the first of four places, counted from 100, with 7 put in before.
+/// Where `/` leads from the first of four places, counted from 100, with 7 put in before.
 fn led(alloc: Global, table: &Table) -> Result<Vec<u64>, OutOfMemory>
     requires { length table.now.terms ≡ 4 }
 {
+    let mut edges = Vec::new(alloc);
+    table.edges(0, 100, &mut edges)?;
     let mut places = Vec::new(alloc);
+    follow(edges.as_slice(), b'/', &mut places)?;
     put(&mut places, 7)?;
     put(&mut places, 7)?;
-    table.lead(0, b'/', 100, &mut places)?;
-    table.lead(0, b'a', 100, &mut places)?;
+    Ok(places)
+}
+
+/// Where a letter leads from the second and the third of four places, counted from 100.
+fn led_by_two(alloc: Global, table: &Table) -> Result<Vec<u64>, OutOfMemory>
+    requires { length table.now.terms ≡ 4 }
+{
+    let mut scratch = Scratch::new(alloc, table.room())?;
+    let mut edges = Vec::new(alloc);
+    table.edges_of(&[1, 2], 100, &mut scratch, &mut edges)?;
+    let mut places = Vec::new(alloc);
+    follow(edges.as_slice(), b'a', &mut places)?;
     Ok(places)
 }
 
@@ -85,8 +98,10 @@ fn places_are_right(alloc: Global, table: &Table) -> Result<bool, OutOfMemory> {
         return Ok(false);
     }
     let ends = !table.ends_at(1) && table.ends_at(2);
-    let places = led(alloc, table)?;
-    Ok(ends && places.as_slice() == [7, 101].as_slice())
+    let one = led(alloc, table)?;
+    let two = led_by_two(alloc, table)?;
+    let leads = one.as_slice() == [7, 101].as_slice() && two.as_slice() == [102].as_slice();
+    Ok(ends && leads)
 }
 
 /// Whether the letters are one class and all else is the other one.

@@ -1,23 +1,25 @@
 //! The table of a term, and the sets of its partial derivatives.
 
-ghost use Rattle.std.specs.Prelude.{◌≡◌, ◌<◌, ◌≤◌, ◌+◌, ◌^◌, ◌↔◌, ◌∷◌, [], true, List, length, IfOk, OnOk, IsTrue};
+ghost use Rattle.std.specs.Prelude.{◌≡◌, ◌<◌, ◌≤◌, ◌+◌, ◌^◌, ◌↔◌, ◌∷◌, [], ℕ, true, List, length, IfOk, OnOk, IsTrue};
 ghost use Rattle.rx_term.specs.declared.terms.Term.{Term};
-ghost use Rattle.rx_term.specs.Language.{In, after, accepting, nullable};
+ghost use Rattle.rx_term.specs.Language.{Has, In, after, accepting, nullable};
 ghost use Rattle.rx_auto.specs.Node.{term_at};
 ghost use Rattle.rx_auto.specs.Marks.{AreBelow, IsMarked};
-ghost use Rattle.rx_auto.specs.Live.{IsAscending, AddsNumbers, IsBehind, HasPlaces};
+ghost use Rattle.rx_auto.specs.Live.{IsBehind, HasPlaces};
+ghost use Rattle.rx_auto.specs.Edges.{AddsEdges};
 ghost use Rattle.rx_auto.specs.Classes.{sets_of, AreClasses, IsClassOf, IsClassCount};
 
 use crate::classes::Classes;
 use crate::dag::Dag;
+use crate::edges::{Edge, put_edges};
 use crate::firsts::firsts_of;
-use crate::live::put_ways;
 use crate::marks::advance;
 use crate::members::Members;
 use crate::parts::{Parts, Spot};
+use crate::reach::{enter_from, put_marked, reach};
 use crate::sets::add_sets;
 use crate::states::{Scratch, StateSet};
-use crate::ways::Ways;
+use crate::ways::{Way, Ways};
 use rx_term::{OutOfMemory, Term};
 use std::alloc::Global;
 use std::marker::Model;
@@ -190,22 +192,46 @@ impl Table {
 }
 
 impl Table {
-    /// Adds to an ascending list the places that a byte leads to from one place, each behind the base.
-    pub fn lead(
-        &self,
-        place: u32,
-        byte: u8,
-        base: u64,
-        to: &mut Vec<u64>,
-    ) -> Result<(), OutOfMemory>
+    /// Adds an edge for each position that may come after the place: what it reads, and its own place, counted from the base.
+    pub fn edges(&self, place: u32, base: u64, to: &mut Vec<Edge>) -> Result<(), OutOfMemory>
         requires place { place < length self.now.terms }
         requires room { base + length self.now.terms ≤ 2 ^ 64 }
-        requires ascending { IsAscending to.old.items }
-        ensures { OnOk result (AddsNumbers to.old.items to.new.items (IsBehind self.now.terms place byte base)) }
+        ensures { OnOk result (AddsEdges to.old.items to.new.items (λ b x. IsBehind self.now.terms place b base x)) }
     {
         let next = self.spots[place as usize].next;
+        match self.ways.at(next) {
+            Way::Nowhere => return Ok(()),
+            Way::At(position) => {
+                return put_edges(&self.spots, &self.reps, &[position], base, to);
+            }
+            Way::Both(..) => {}
+        }
         let ps = self.ways.spread(*to.allocator(), next)?;
-        put_ways(&self.spots, &self.reps, ps.as_slice(), byte, base, to)
+        put_edges(&self.spots, &self.reps, ps.as_slice(), base, to)
+    }
+
+    /// Adds the edges of several places. A position that may come after several of them is added once, so the time is that
+    /// of the places and of what they reach. The scratch has at least the table's room.
+    pub fn edges_of(
+        &self,
+        places: &[u32],
+        base: u64,
+        scratch: &mut Scratch,
+        to: &mut Vec<Edge>,
+    ) -> Result<(), OutOfMemory>
+        requires places { (p : ℕ) → Has places.now p → p < length self.now.terms }
+        requires base { base + length self.now.terms ≤ 2 ^ 64 }
+        requires room { self.now.room ≤ scratch.old }
+        ensures room { scratch.new ≡ scratch.old }
+        ensures edges { OnOk result (AddsEdges to.old.items to.new.items
+            (λ b x. (p : ℕ) × Has places.now p × IsBehind self.now.terms p b base x)) }
+    {
+        let _ = &self.spots;
+        scratch.nodes.clear();
+        scratch.row.clear();
+        enter_from(&self.spots, places, &mut scratch.nodes);
+        reach(&self.ways, &mut scratch.nodes, &mut scratch.row);
+        put_marked(&self.spots, &self.reps, &scratch.row, base, to)
     }
 
     /// Whether the empty text is in the term of a place.

@@ -5,7 +5,7 @@ use Rattle.goal_build.proofs.WellFormed.{well_formed_law}
 use Rattle.goal_build.proofs.goals.goal.Goals as goal
 
 pub guard_of-at-requires : goal.guard_of-at-requires
-guard_of-at-requires c = route_has_guard c.args.config.now c.args.route _ _ c.in_ok-goals.goals c.in_ok-goals.ensures c.host_of-host.ensures
+guard_of-at-requires c = route_has_guard c.args.config.now c.args.route _ _ c.in_ok-goals.goals c.in_ok-goals.ensures c.host_from-host.ensures
 
 pub returns-clause-formed : goal.returns-clause-formed
 returns-clause-formed c =
