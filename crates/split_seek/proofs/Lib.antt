@@ -1,0 +1,6 @@
+pub mod Drafts
+pub mod Asking
+pub mod Making
+pub mod Looking
+pub mod Searches
+pub mod Enough

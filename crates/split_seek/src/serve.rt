@@ -1,0 +1,169 @@
+// A text for each field that a path requires.
+ghost use Rattle.std.specs.Prelude.{◌≡◌, ◌≤◌, Bool, true, ◌||◌, IfOk};
+ghost use Rattle.text_base.specs.declared.request.Field.{Field as AnyField};
+ghost use Rattle.rx_joint.specs.Claims.{AreChosen, chosen};
+ghost use Rattle.field_seek.specs.Seen.{IsSeen};
+ghost use Rattle.goal_form.specs.Fields.{same_field as same};
+ghost use Rattle.goal_form.specs.Goals.{is_required as required};
+ghost use Rattle.split_seek.specs.Serving.{Sought, IsDraft, ServesOn, Serves, is_among};
+
+use crate::hints::Hints;
+use crate::texts::{Draft, Service, has_text};
+use field_seek::{Seen, seek_among};
+use goal_form::{Goal, Node, copy_field, field_of, has_user, is_claimed_absent};
+use goal_tables::{Joint, Tables};
+use rx_auto::Words;
+use sqlite_items::Items;
+use std::alloc::Global;
+use text_base::{Field, OutOfMemory};
+
+/// A text as the choice says: the last one of the field, if it still is, or one that is sought.
+fn seek_or_recall(
+    alloc: Global,
+    joint: &Joint,
+    field: &Field,
+    choice: &[(u32, bool)],
+    limit: Option<u32>,
+    hints: &mut Hints,
+) -> Result<Seen, OutOfMemory>
+    requires choice { AreChosen joint.now.terms choice.now }
+    requires room { joint.now.room ≤ hints.old }
+    ensures room { hints.new ≡ hints.old }
+    ensures seen { IfOk result (λ seen. IsSeen joint.now.valid (chosen joint.now.terms choice.now) limit seen) }
+{
+    if let Some(text) = hints.recall(alloc, field, joint, choice)? {
+        return Ok(Seen::Found(text));
+    }
+    let seen = seek_among(alloc, joint, choice, limit)?;
+    if let Seen::Found(text) = &seen {
+        hints.keep(alloc, field, text.as_slice())?;
+    }
+    Ok(seen)
+}
+
+/// Seeks a valid text of a required field as the path says. States are counted only where a pattern of the configuration
+/// is on the path.
+fn seek_text(
+    alloc: Global,
+    goal: &Goal,
+    tables: &Tables<'_>,
+    path: &[(u32, bool)],
+    field: &Field,
+    cap: u32,
+    hints: &mut Hints,
+) -> Result<Seen, OutOfMemory>
+    requires tables { tables.now.atoms ≡ goal.now.atoms }
+    requires asked { required goal.now.atoms path.now field.now ≡ true }
+    requires room { tables.now.room ≤ hints.old }
+    ensures room { hints.new ≡ hints.old }
+    ensures sought { IfOk result (Sought goal.now cap path.now field.now) }
+{
+    let limit = if has_user(goal, path, field) {
+        Some(cap)
+    } else {
+        None
+    };
+    let choice = tables.choose(alloc, path, field)?;
+    match tables.joint(field) {
+        Some(joint) => seek_or_recall(alloc, joint, field, &choice, limit, hints),
+        None => Ok(Seen::Empty(Words {
+            list: Items::new(alloc),
+        })),
+    }
+}
+
+/// Adds a text of the field to the draft, or tells the leaf that shows that there is none.
+fn serve_field(
+    alloc: Global,
+    goal: &Goal,
+    tables: &Tables<'_>,
+    path: &[(u32, bool)],
+    field: &Field,
+    cap: u32,
+    hints: &mut Hints,
+    draft: &mut Draft,
+) -> Result<Option<Node>, OutOfMemory>
+    requires tables { tables.now.atoms ≡ goal.now.atoms }
+    requires asked { required goal.now.atoms path.now field.now ≡ true }
+    requires room { tables.now.room ≤ hints.old }
+    ensures room { hints.new ≡ hints.old }
+    ensures served { (among : AnyField → Bool) → IsDraft goal.now cap path.now among draft.old.texts draft.old.full
+        → IfOk result (ServesOn goal.now cap path.now (λ f. among f || same field.now f) draft.new.texts draft.new.full) }
+{
+    if is_claimed_absent(goal, path, field) {
+        let field = copy_field(alloc, field)?;
+        return Ok(Some(Node::Clash { field }));
+    }
+    if has_text(draft.texts.as_slice(), field) {
+        return Ok(None);
+    }
+    let seen = seek_text(alloc, goal, tables, path, field, cap, hints)?;
+    let field = copy_field(alloc, field)?;
+    match seen {
+        Seen::Found(text) => {
+            draft.texts.push((field, Items::from_vec(text)))?;
+            Ok(None)
+        }
+        Seen::Empty(words) => Ok(Some(Node::Closed { field, words })),
+        Seen::Capped(words) => {
+            draft.full = Some(Node::Capped { field, words });
+            Ok(None)
+        }
+    }
+}
+
+/// The fields that are always there, and those that a true step asks for.
+fn required_fields(
+    alloc: Global,
+    goal: &Goal,
+    path: &[(u32, bool)],
+) -> Result<Items<Field>, OutOfMemory>
+    ensures { IfOk result (λ fields. (f : AnyField) → required goal.now.atoms path.now f ≡ is_among f fields) }
+{
+    let mut fields = Items::new(alloc);
+    fields.push(Field::Authority)?;
+    fields.push(Field::Target)?;
+    fields.push(Field::Method)?;
+    fields.push(Field::Proto)?;
+    fields.push(Field::Random)?;
+    for step in path {
+        if step.1 {
+            if let Some(atom) = goal.atoms.get(step.0) {
+                fields.push(copy_field(alloc, field_of(atom))?)?;
+            }
+        }
+    }
+    Ok(fields)
+}
+
+/// A text for each required field, or the leaf that shows that there is none, or a field with too many states.
+pub fn serve(
+    alloc: Global,
+    goal: &Goal,
+    tables: &Tables<'_>,
+    path: &[(u32, bool)],
+    cap: u32,
+    hints: &mut Hints,
+) -> Result<Service, OutOfMemory>
+    requires tables { tables.now.atoms ≡ goal.now.atoms }
+    requires room { tables.now.room ≤ hints.old }
+    ensures room { hints.new ≡ hints.old }
+    ensures served { IfOk result (Serves goal.now cap path.now) }
+{
+    let fields = required_fields(alloc, goal, path)?;
+    let mut draft = Draft {
+        texts: Items::new(alloc),
+        full: None,
+    };
+    let list = fields.as_slice();
+    for field in list {
+        if let Some(node) = serve_field(alloc, goal, tables, path, field, cap, hints, &mut draft)? {
+            return Ok(Service::Shut(node));
+        }
+    }
+    let Draft { texts, full } = draft;
+    match full {
+        Some(node) => Ok(Service::Full(node)),
+        None => Ok(Service::All(texts)),
+    }
+}
