@@ -1,0 +1,5 @@
+pub mod Reading
+pub mod Counts
+pub mod LawfulRows
+pub mod GoalRows
+pub mod Laws

@@ -1,0 +1,10 @@
+pub mod FieldNames
+pub mod Shapes
+pub mod Values
+pub mod Lines
+pub mod Leaves
+pub mod Nodes
+pub mod Requests
+pub mod Rows
+pub mod Read
+pub mod Laws

@@ -1,0 +1,4 @@
+mod Written
+mod Texts
+mod Counts
+mod Lawful
