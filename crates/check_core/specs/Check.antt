@@ -9,14 +9,10 @@ use Rattle.test_read.specs.declared.test.Test.{Test}
 use Rattle.test_run.specs.Coverage.{covered}
 use Rattle.test_run.specs.Verdicts.{failed}
 use Rattle.test_run.specs.Lines.{check_text}
-use Rattle.check_core.specs.Inputs.{FileEnds, FileHolds}
+use Rattle.check_core.specs.Inputs.{FileEnds, FileHolds, ConfigEnds}
 use Rattle.check_core.specs.Words.{CheckCall}
 use Rattle.check_core.specs.declared.status.Status.{Status}
 use Rattle.check_core.specs.declared.status.Status.TheVariants.{Done, TestsFailed}
-
--- the configuration ends the call
-abbrev pub ConfigEnds : List ℕ → Contents → List ℕ → Status → Type 0
-ConfigEnds = FileEnds config_of (codes "config")
 
 -- the test file ends the call
 abbrev pub TestsEnd : List ℕ → Contents → List ℕ → Status → Type 0

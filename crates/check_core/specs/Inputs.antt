@@ -1,9 +1,10 @@
 -- The files that a command reads whole and judges: what one holds, and how one ends a run.
 -- An outcome is what the bytes of such a file stand for, or their first offence.
-use Rattle.std.specs.Prelude.{◌≡◌, ℕ, ◌<◌, ◌≤◌, List, [], length, Option, Some, Ok, Err}
+use Rattle.std.specs.Prelude.{◌≡◌, ℕ, ◌<◌, ◌≤◌, List, [], length, Option, Some, Ok, Err, codes}
 use Rattle.outside.specs.Contents.{Contents, find}
 use Rattle.json_walk.specs.Outcome.{Outcome}
 use Rattle.json_walk.specs.declared.refusal.Refusal.{Refusal}
+use Rattle.read_config.specs.Configs.{config_of}
 use Rattle.check_core.specs.Refusals.{refusal_line}
 use Rattle.check_core.specs.declared.status.Status.{Status}
 use Rattle.check_core.specs.declared.status.Status.TheVariants.{Refused, TooLong}
@@ -39,3 +40,11 @@ pub data FileEnds {A : Type 0} (outcome : List ℕ → Outcome A) (word name : L
 pub data Stops {A : Type 0} (outcome : List ℕ → Outcome A) (name : List ℕ) (told : Option Contents) : Type 0 where
   is_long : (files : Contents) (bytes : List ℕ) → told ≡ Some files → IsFile files name bytes → file_limit < length bytes → Stops {A = A} outcome name told
   is_bad : (files : Contents) (bytes : List ℕ) (r : Refusal) → told ≡ Some files → IsFile files name bytes → outcome bytes ≡ Err r → Stops {A = A} outcome name told
+
+-- the configuration ends the call
+abbrev pub ConfigEnds : List ℕ → Contents → List ℕ → Status → Type 0
+ConfigEnds = FileEnds config_of (codes "config")
+
+-- the second file of this name is asked for, which it is only where the configuration doesn't end the call
+abbrev pub IsSecond : List ℕ → List ℕ → Option Contents → List ℕ → Type 0
+IsSecond config second told name = (name ≡ second) × (Stops config_of config told → ⊥)

@@ -2,31 +2,39 @@
 use Rattle.std.specs.Prelude.{◌≡◌, ◌⊎◌, ◌≢◌, List, ℕ, Option, Some}
 use Rattle.outside.specs.Contents.{Contents}
 use Rattle.outside.specs.Faults.{Rose}
-use Rattle.outside.specs.Written.{Appends, IsFront}
-use Rattle.read_config.specs.Configs.{config_of}
+use Rattle.outside.specs.Written.{Appends}
 use Rattle.check_core.specs.Status.{IsCut}
-use Rattle.check_core.specs.Words.{Command, check}
+use Rattle.check_core.specs.Words.{Command, check, reach, verify, sample}
 use Rattle.check_core.specs.Outside.{Outside, IsKept, IsQuiet}
-use Rattle.check_core.specs.Inputs.{IsThere, Stops}
+use Rattle.check_core.specs.Begun.{FrontOf, NothingOrFrontOf}
+use Rattle.check_core.specs.Inputs.{IsThere, IsSecond}
 use Rattle.check_core.specs.Check.{Checks}
+use Rattle.check_core.specs.Reach.{Reaches, ReachBegins}
+use Rattle.check_core.specs.Verify.{Verifies}
+use Rattle.check_core.specs.Sample.{Samples, SampleBegins}
 use Rattle.check_core.specs.declared.status.Status.{Status}
 use Rattle.check_core.specs.declared.status.Status.TheVariants.{ReadFault, WriteFault, Usage, TooLong}
 
 -- the text and the status that are due
 abbrev pub Due : Command → Contents → List ℕ → Status → Type 0
 Due (check call) = Checks call
-
--- the front of some text that is due
-abbrev pub FrontOf : (Contents → List ℕ → Status → Type 0) → Contents → List ℕ → Type 0
-FrontOf due files bytes = (text : List ℕ) × (status : Status) × due files text status × IsFront bytes text
+Due (reach call) = Reaches call
+Due (verify call) = Verifies call
+Due (sample hosts) = Samples hosts
 
 -- the bytes may be the front of what is written
 abbrev pub Begins : Command → Contents → List ℕ → Type 0
 Begins (check call) = FrontOf (Checks call)
+Begins (reach call) = ReachBegins call
+Begins (verify call) = NothingOrFrontOf (Verifies call)
+Begins (sample hosts) = SampleBegins hosts
 
--- the name is asked for: the tests only where the configuration doesn't end the call
+-- the name is asked for
 abbrev pub IsDue : Command → Option Contents → List ℕ → Type 0
-IsDue (check call) told name = (name ≡ call.config) ⊎ ((name ≡ call.tests) × (Stops config_of call.config told → ⊥))
+IsDue (check call) told name = (name ≡ call.config) ⊎ IsSecond call.config call.tests told name
+IsDue (reach call) told name = name ≡ call.config
+IsDue (verify call) told name = (name ≡ call.config) ⊎ IsSecond call.config call.report told name
+IsDue (sample hosts) told name = ⊥
 
 -- each file that is asked for is there
 abbrev pub AreThere : Command → Contents → Type 0

@@ -6,16 +6,17 @@ ghost use Rattle.route_scan.specs.Tests.{AreTestsOf, most_room};
 ghost use Rattle.test_read.specs.Lawful.{IsLawfulTest};
 ghost use Rattle.test_run.specs.Lines.{check_text};
 ghost use Rattle.check_core.specs.Outside.{outside, IsKept};
+ghost use Rattle.check_core.specs.Begun.{FrontOf};
 ghost use Rattle.check_core.specs.Run.{IsDue, AreThere};
 ghost use Rattle.check_core.specs.Check.{Checks, status_of as status_by, verdict};
-ghost use Rattle.check_core.specs.Calls.{call_of};
+ghost use Rattle.check_core.specs.Calls.{check_of};
 ghost use Rattle.check_core.specs.Words.{check as check_command};
 ghost use Rattle.check_core.specs.Steps.{EndedEither};
 
+use crate::calls::CheckWords;
 use crate::input::{ConfigFile, TestFile, read_input};
 use crate::status::Status;
 use crate::verdicts::{Sums, write_verdicts};
-use crate::words::CheckWords;
 use cfg_types::Config;
 use outside::{Files, Sink, WriteFail};
 use route_match::{RouteTest, Scratch};
@@ -31,9 +32,9 @@ pub fn check<F: Files, K: Sink>(
     files: &mut F,
     out: &mut K,
 ) -> Result<Status, Status>
-    requires { (name : List ℕ) → IsDue (check_command (call_of words.now)) (F.state files.old).told name →
+    requires { (name : List ℕ) → IsDue (check_command (check_of words.now)) (F.state files.old).told name →
         IsTrue ((F.state files.old).admits name) }
-    ensures ended { EndedEither (AreThere (check_command (call_of words.now))) (Checks (call_of words.now))
+    ensures ended { EndedEither (AreThere (check_command (check_of words.now))) (Checks (check_of words.now)) (FrontOf (Checks (check_of words.now)))
         (outside (F.state files.old) (K.state out.old)) (outside (F.state files.new) (K.state out.new)) result }
     ensures kept { IsKept (outside (F.state files.old) (K.state out.old)) (outside (F.state files.new) (K.state out.new)) }
     ensures names { (name : List ℕ) → (F.state files.new).admits name ≡ (F.state files.old).admits name }
@@ -92,7 +93,7 @@ fn judge<K: Sink>(
     requires lawful { IsLawful config.now }
     requires asked { All IsLawfulTest tests.now }
     ensures text { Wrote (K.state out.old) (K.state out.new) (check_text words.now.only_failures config.now tests.now) result }
-    ensures status { IfOk result (λ s. s ≡ verdict (call_of words.now) config.now tests.now) }
+    ensures status { IfOk result (λ s. s ≡ verdict (check_of words.now) config.now tests.now) }
 {
     let Routing {
         scan,

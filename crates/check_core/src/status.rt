@@ -13,13 +13,13 @@ pub enum Status {
     Refused,
     /// A file couldn't be read. Nothing is written.
     ReadFault,
-    /// The output took a line's front or nothing of it.
+    /// The output took a front of the text, or nothing of it.
     WriteFault,
     /// The words are no call. Nothing is read and nothing is written.
     Usage,
-    /// A file is longer than its limit. Nothing is written.
+    /// A file, or a line of a report, is longer than its limit. Nothing is written.
     TooLong,
-    /// A row of a report isn't lawful.
+    /// A report has a row that isn't the next route's lawful row, or a row or a byte too few or too many.
     Rejected,
     /// Memory ran out.
     NoMemory,

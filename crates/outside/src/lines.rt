@@ -125,6 +125,7 @@ impl Lines {
         ensures ahead { OnOk result (AreAhead (F.state files.old).told name.now self.new) }
         ensures stays { self.new.taken ≡ self.old.taken }
         ensures end { IfOk result (λ end. Left (F.state files.old).told name.now self.old.taken (λ rest. IsTrue end ↔ (rest ≡ []))) }
+        ensures short { IsErrOf result FileFail.TooLong → ⊥ }
         ensures contents { (F.state files.new).told ≡ (F.state files.old).told }
         ensures names { (other : List ℕ) → (F.state files.new).admits other ≡ (F.state files.old).admits other }
         ensures cause { HasReadCause (F.state files.old).faults (F.state files.new).faults result }

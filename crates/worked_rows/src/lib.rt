@@ -6,6 +6,8 @@ mod answers;
 #[cfg(test)]
 mod asked;
 #[cfg(test)]
+mod calls;
+#[cfg(test)]
 mod cases;
 #[cfg(test)]
 mod faults;
@@ -16,8 +18,16 @@ mod options;
 #[cfg(test)]
 mod parts;
 #[cfg(test)]
+mod reach;
+#[cfg(test)]
 mod refusals;
 #[cfg(test)]
+mod report;
+#[cfg(test)]
+mod row_faults;
+#[cfg(test)]
 mod rules;
+#[cfg(test)]
+mod sample;
 #[cfg(test)]
 mod trees;
