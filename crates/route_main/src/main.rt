@@ -1,4 +1,4 @@
-//! Checks a route table: `check CONFIG TESTS`.
+//! Checks a route table: `check CONFIG TESTS`, `reach CONFIG`, `verify CONFIG REPORT` and `sample N`.
 #![tactic(auto)]
 
 ghost use Rattle.std.specs.Prelude.{◌≡◌};
