@@ -11,14 +11,15 @@ pub(crate) fn table(alloc: Global, rules: &str) -> Result<String, OutOfMemory> {
         "{}",
         r#"{"virtual_hosts":[{"name":"h","domains":["*"],"routes":["#
     )?;
-    let mut comma = "";
     for (number, rule) in rules.lines().enumerate() {
+        if number > 0 {
+            text.push_str(",")?;
+        }
         let route = format!(in alloc;
-            "{comma}{}{rule}{}{number}{}",
+            "{}{rule}{}{number}{}",
             r#"{"match":"#, r#","route":{"cluster":"c"#, r#""}}"#
         )?;
         text.push_str(route.as_str())?;
-        comma = ",";
     }
     text.push_str("]}]}")?;
     Ok(text)
