@@ -1,6 +1,6 @@
 // What is tried before any split: a request at which the goal's own atoms are true and the others false. Whatever is tried,
 // the request is taken only where the goal is true at it.
-ghost use Rattle.std.specs.Prelude.{◌≡◌, ◌≤◌, ◌<◌, ◌^◌, length, IfOk, IfSome};
+ghost use Rattle.std.specs.Prelude.{◌≡◌, ◌<◌, ◌^◌, length, IfOk, IfSome};
 ghost use Rattle.split_seek.specs.Findings.{MeetsGoal};
 
 use crate::finding::Look;
@@ -70,20 +70,13 @@ fn decided(alloc: Global, truths: &[bool], all: bool) -> Result<Trail, OutOfMemo
 }
 
 /// Whether the atom is true where these texts are shown.
-fn is_true(
-    goal: &Goal,
-    tables: &Tables<'_>,
-    texts: &[(Field, Items<u8>)],
-    number: u32,
-    hints: &mut Hints,
-) -> bool
-    requires { tables.now.room ≤ hints.old }
+fn is_true(goal: &Goal, texts: &[(Field, Items<u8>)], number: u32, hints: &mut Hints<'_>) -> bool
     ensures { hints.new ≡ hints.old }
 {
     match goal.atoms.get(number) {
         Some(Atom::Present(field)) => has_text(texts, field),
         Some(Atom::Within { field, .. }) => {
-            has_text(texts, field) && hints.holds(tables, number, text_for(texts, field))
+            has_text(texts, field) && hints.holds(number, text_for(texts, field))
         }
         None => false,
     }
@@ -93,17 +86,15 @@ fn is_true(
 fn truths_at(
     alloc: Global,
     goal: &Goal,
-    tables: &Tables<'_>,
     texts: &[(Field, Items<u8>)],
-    hints: &mut Hints,
+    hints: &mut Hints<'_>,
 ) -> Result<Vec<bool>, OutOfMemory>
-    requires { tables.now.room ≤ hints.old }
-    ensures room { hints.new ≡ hints.old }
+    ensures hints { hints.new ≡ hints.old }
     ensures long { IfOk result (λ v. length v.items ≡ length goal.now.atoms) }
 {
     let mut truths = Vec::new(alloc);
     for number in 0..goal.atoms.count() {
-        truths.push(is_true(goal, tables, texts, number, hints))?;
+        truths.push(is_true(goal, texts, number, hints))?;
     }
     Ok(truths)
 }
@@ -115,13 +106,13 @@ fn try_truths(
     tables: &Tables<'_>,
     truths: &[bool],
     cap: u32,
-    hints: &mut Hints,
+    hints: &mut Hints<'_>,
 ) -> Result<Option<Request>, OutOfMemory>
     requires tables { tables.now.atoms ≡ goal.now.atoms }
     requires long { length truths.now ≡ length goal.now.atoms }
     requires few { length truths.now < 2 ^ 32 }
-    requires room { tables.now.room ≤ hints.old }
-    ensures room { hints.new ≡ hints.old }
+    requires hints { hints.old ≡ tables.now }
+    ensures hints { hints.new ≡ hints.old }
     ensures meets { IfOk result (λ found. IfSome found (λ q. MeetsGoal goal.now q)) }
 {
     let trail = decided(alloc, truths, true)?;
@@ -140,11 +131,11 @@ pub fn first_try(
     goal: &Goal,
     tables: &Tables<'_>,
     cap: u32,
-    hints: &mut Hints,
+    hints: &mut Hints<'_>,
 ) -> Result<Option<Request>, OutOfMemory>
     requires tables { tables.now.atoms ≡ goal.now.atoms }
-    requires room { tables.now.room ≤ hints.old }
-    ensures room { hints.new ≡ hints.old }
+    requires hints { hints.old ≡ tables.now }
+    ensures hints { hints.new ≡ hints.old }
     ensures meets { IfOk result (λ found. IfSome found (λ q. MeetsGoal goal.now q)) }
 {
     let count = goal.atoms.count();
@@ -154,7 +145,7 @@ pub fn first_try(
     let Service::All(texts) = serve(alloc, goal, tables, wished.steps(), cap, hints)? else {
         return Ok(None);
     };
-    let shown = truths_at(alloc, goal, tables, texts.as_slice(), hints)?;
+    let shown = truths_at(alloc, goal, texts.as_slice(), hints)?;
     if let Some(request) = try_truths(alloc, goal, tables, &shown, cap, hints)? {
         return Ok(Some(request));
     }

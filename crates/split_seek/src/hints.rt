@@ -1,52 +1,63 @@
 // Texts that were found before.
-ghost use Rattle.std.specs.Prelude.{◌≡◌, ◌≤◌, ◌<◌, length, IfOk, IfSome};
+ghost use Rattle.std.specs.Prelude.{◌≡◌, ◌≤◌, IfOk, IfSome};
 ghost use Rattle.rx_term.specs.Closing.{Meets};
 ghost use Rattle.rx_joint.specs.Claims.{AreChosen, chosen};
+ghost use Rattle.goal_tables.specs.Fields.{IsJointOf};
+ghost use Rattle.split_seek.specs.Known.{IsPlaceOf};
 
-use goal_form::{copy_field, same_field};
+use crate::kept::{Kept, meets};
+use goal_form::same_field;
 use goal_tables::{Joint, Tables};
 use rx_auto::Scratch;
-use sqlite_items::Items;
 use std::alloc::Global;
 use std::marker::Model;
 use text_base::{Field, OutOfMemory};
 
-/// The text that was found last for each field, and the scratch in which texts are tested. A text is tested before it is
-/// used, so it shows nothing by itself. Contracts see the room of the scratch.
+/// The text that was found last for each field of the tables, and the scratch in which texts are tested. A path has
+/// most of its claims from the paths before it, so what is known of a text is kept beside it. Contracts see the tables.
 #[derive(Drop)]
-pub struct Hints {
-    texts: Items<(Field, Items<u8>)>,
+pub struct Hints<'a> {
+    tables: &'a Tables<'a>,
+    kept: Vec<Kept>,
     scratch: Scratch,
 }
 
-impl Model for Hints {
-    ghost use Rattle.std.specs.Prelude.{ℕ};
+impl<'a> Model for Hints<'a> {
+    ghost use Rattle.std.specs.Coded.{codes};
+    ghost use Rattle.rx_term.specs.contracts.terms.Term as of_term;
+    ghost use Rattle.goal_tables.specs.Fields.{TablesMeaning};
+    ghost use Rattle.split_seek.specs.Known.{AreHints};
 
-    ghost Value = { ℕ };
+    ghost Value = { TablesMeaning };
 
-    ghost view = { λ h. h.scratch };
+    ghost coded = { Prim.hlevel (codes, of_term.the_row.coded) };
+
+    ghost view = { λ h. h.tables.now };
+
+    ghost invariant = { λ h. AreHints h.tables.now h.kept.items h.scratch };
 }
 
-/// Where the field stands.
-fn place_of(texts: &[(Field, Items<u8>)], field: &Field) -> Option<usize>
-    ensures { IfSome result (λ i. i < length texts.now) }
+/// Where the field's text stands.
+fn place_of(kept: &[Kept], field: &Field) -> Option<usize>
+    ensures { IfSome result (IsPlaceOf kept.now field.now) }
 {
-    for (i, entry) in texts.iter().enumerate() {
-        if same_field(&entry.0, field) {
+    for (i, entry) in kept.iter().enumerate() {
+        if same_field(&entry.field, field) {
             return Some(i);
         }
     }
     None
 }
 
-impl Hints {
-    /// No texts, and a scratch of this room.
-    pub fn new(alloc: Global, room: u32) -> Result<Hints, OutOfMemory>
-        ensures { IfOk result (λ h. h ≡ room) }
+impl<'a> Hints<'a> {
+    /// No texts, and a scratch in which they can be tested.
+    pub fn new(alloc: Global, tables: &'a Tables<'a>) -> Result<Hints<'a>, OutOfMemory>
+        ensures { IfOk result (λ h. h ≡ tables.now) }
     {
         Ok(Hints {
-            texts: Items::new(alloc),
-            scratch: Scratch::new(alloc, room)?,
+            tables,
+            kept: Vec::new(alloc),
+            scratch: Scratch::new(alloc, tables.room())?,
         })
     }
 
@@ -58,40 +69,47 @@ impl Hints {
         joint: &Joint,
         choice: &[(u32, bool)],
     ) -> Result<Option<Vec<u8>>, OutOfMemory>
+        requires joint { IsJointOf self.old.atoms field.now joint.now }
+        requires room { joint.now.room ≤ self.old.room }
         requires choice { AreChosen joint.now.terms choice.now }
-        requires room { joint.now.room ≤ self.old }
-        ensures room { self.new ≡ self.old }
+        ensures hints { self.new ≡ self.old }
         ensures meets { IfOk result (λ found. IfSome found (λ text. Meets joint.now.valid (chosen joint.now.terms choice.now) text.items)) }
     {
-        let list = self.texts.as_slice();
-        let Some(place) = place_of(list, field) else {
+        let Some(place) = place_of(&self.kept, field) else {
             return Ok(None);
         };
-        let text = list[place].1.as_slice();
-        if joint.meets(choice, text, &mut self.scratch) {
+        let entry = &mut self.kept[place];
+        let text = entry.text.as_slice();
+        if meets(joint, choice, text, &mut entry.known, &mut self.scratch) {
             Ok(Some(Vec::from_slice(alloc, text)?))
         } else {
             Ok(None)
         }
     }
 
-    /// Keeps the text in place of the field's last one.
-    pub fn keep(&mut self, alloc: Global, field: &Field, text: &[u8]) -> Result<(), OutOfMemory>
+    /// Keeps the text in place of the field's last one. Nothing is known of it yet.
+    pub fn keep(
+        &mut self,
+        alloc: Global,
+        field: &Field,
+        joint: &Joint,
+        text: &[u8],
+    ) -> Result<(), OutOfMemory>
+        requires { IsJointOf self.old.atoms field.now joint.now }
         ensures { self.new ≡ self.old }
     {
-        let entry = (copy_field(alloc, field)?, Items::from_slice(alloc, text)?);
-        match place_of(self.texts.as_slice(), field) {
-            Some(place) => self.texts.set(place, entry),
-            None => self.texts.push(entry)?,
+        let entry = Kept::new(alloc, field, joint, text)?;
+        match place_of(&self.kept, field) {
+            Some(place) => self.kept[place] = entry,
+            None => self.kept.push(entry)?,
         }
         Ok(())
     }
 
     /// Whether the text is in the term of an atom.
-    pub fn holds(&mut self, tables: &Tables<'_>, atom: u32, text: &[u8]) -> bool
-        requires { tables.now.room ≤ self.old }
+    pub fn holds(&mut self, atom: u32, text: &[u8]) -> bool
         ensures { self.new ≡ self.old }
     {
-        tables.holds(atom, text, &mut self.scratch)
+        self.tables.holds(atom, text, &mut self.scratch)
     }
 }

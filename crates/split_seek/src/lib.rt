@@ -4,6 +4,7 @@
 mod finding;
 mod first;
 mod hints;
+mod kept;
 mod look;
 mod made;
 mod search;

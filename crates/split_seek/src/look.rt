@@ -1,5 +1,5 @@
 // What stands at the end of a path.
-ghost use Rattle.std.specs.Prelude.{◌≡◌, ◌≤◌, true, length, IfOk};
+ghost use Rattle.std.specs.Prelude.{◌≡◌, true, length, IfOk};
 ghost use Rattle.goal_form.specs.declared.formula.Standing.TheVariants as standing;
 ghost use Rattle.goal_form.specs.Formulas.{leaves_below, standing_on};
 ghost use Rattle.split_seek.specs.Findings.{Sees};
@@ -21,13 +21,13 @@ pub fn look_at_truth(
     tables: &Tables<'_>,
     trail: &Trail,
     cap: u32,
-    hints: &mut Hints,
+    hints: &mut Hints<'_>,
 ) -> Result<Look, OutOfMemory>
     requires tables { tables.now.atoms ≡ goal.now.atoms }
-    requires room { tables.now.room ≤ hints.old }
+    requires hints { hints.old ≡ tables.now }
     requires count { trail.now.count ≡ length goal.now.atoms }
     requires here { standing_on trail.now.path goal.now.formula ≡ standing.Known true }
-    ensures room { hints.new ≡ hints.old }
+    ensures hints { hints.new ≡ hints.old }
     ensures sees { IfOk result (Sees goal.now cap trail.now.path) }
 {
     match serve(alloc, goal, tables, trail.steps(), cap, hints)? {
@@ -46,13 +46,13 @@ fn look_at_open(
     trail: &Trail,
     cap: u32,
     atom: u32,
-    hints: &mut Hints,
+    hints: &mut Hints<'_>,
 ) -> Result<Look, OutOfMemory>
     requires tables { tables.now.atoms ≡ goal.now.atoms }
-    requires room { tables.now.room ≤ hints.old }
+    requires hints { hints.old ≡ tables.now }
     requires leaves { leaves_below (length goal.now.atoms) goal.now.formula ≡ true }
     requires here { standing_on trail.now.path goal.now.formula ≡ standing.Open atom }
-    ensures room { hints.new ≡ hints.old }
+    ensures hints { hints.new ≡ hints.old }
     ensures sees { IfOk result (Sees goal.now cap trail.now.path) }
 {
     match serve(alloc, goal, tables, trail.steps(), cap, hints)? {
@@ -69,13 +69,13 @@ pub fn look_at(
     tables: &Tables<'_>,
     trail: &Trail,
     cap: u32,
-    hints: &mut Hints,
+    hints: &mut Hints<'_>,
 ) -> Result<Look, OutOfMemory>
     requires tables { tables.now.atoms ≡ goal.now.atoms }
-    requires room { tables.now.room ≤ hints.old }
+    requires hints { hints.old ≡ tables.now }
     requires count { trail.now.count ≡ length goal.now.atoms }
     requires leaves { leaves_below (length goal.now.atoms) goal.now.formula ≡ true }
-    ensures room { hints.new ≡ hints.old }
+    ensures hints { hints.new ≡ hints.old }
     ensures sees { IfOk result (Sees goal.now cap trail.now.path) }
 {
     match trail.standing_of(&goal.formula) {

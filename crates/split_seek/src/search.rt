@@ -1,5 +1,5 @@
 // The search: one path is its whole state, since the branches that wait are the false sides of the path's true steps.
-ghost use Rattle.std.specs.Prelude.{◌≡◌, ◌≤◌, ◌++◌, true, length, IfOk};
+ghost use Rattle.std.specs.Prelude.{◌≡◌, ◌++◌, true, length, IfOk};
 ghost use Rattle.goal_form.specs.Formulas.{leaves_below};
 ghost use Rattle.goal_form.specs.Goals.{IsWellFormed};
 ghost use Rattle.goal_form.specs.Waiting.{waiting};
@@ -45,10 +45,10 @@ fn search_tree(
     tables: &Tables<'_>,
     splits: u32,
     cap: u32,
-    hints: &mut Hints,
+    hints: &mut Hints<'_>,
 ) -> Result<Finding, OutOfMemory>
     requires tables { tables.now.atoms ≡ goal.now.atoms }
-    requires room { tables.now.room ≤ hints.old }
+    requires hints { hints.old ≡ tables.now }
     requires leaves { leaves_below (length goal.now.atoms) goal.now.formula ≡ true }
     ensures answer { IfOk result (Answers goal.now splits cap) }
     ensures decides { IfOk result (λ found. AreEnough goal.now splits cap → IsDecided found) }
@@ -95,7 +95,7 @@ pub fn analyse(alloc: Global, goal: &Goal, splits: u32, cap: u32) -> Result<Find
     ensures decides { IfOk result (λ found. AreEnough goal.now splits cap → IsDecided found) }
 {
     let tables = Tables::build(alloc, goal)?;
-    let mut hints = Hints::new(alloc, tables.room())?;
+    let mut hints = Hints::new(alloc, &tables)?;
     match first_try(alloc, goal, &tables, cap, &mut hints)? {
         Some(request) => Ok(Finding::Reached(request)),
         None => search_tree(alloc, goal, &tables, splits, cap, &mut hints),

@@ -5,6 +5,7 @@ ghost use Rattle.rx_joint.specs.Claims.{AreChosen, chosen};
 ghost use Rattle.field_seek.specs.Seen.{IsSeen};
 ghost use Rattle.goal_form.specs.Fields.{same_field as same};
 ghost use Rattle.goal_form.specs.Goals.{is_required as required};
+ghost use Rattle.goal_tables.specs.Fields.{IsJointOf};
 ghost use Rattle.split_seek.specs.Serving.{Sought, IsDraft, ServesOn, Serves, is_among};
 
 use crate::hints::Hints;
@@ -24,11 +25,12 @@ fn seek_or_recall(
     field: &Field,
     choice: &[(u32, bool)],
     limit: Option<u32>,
-    hints: &mut Hints,
+    hints: &mut Hints<'_>,
 ) -> Result<Seen, OutOfMemory>
+    requires joint { IsJointOf hints.old.atoms field.now joint.now }
+    requires room { joint.now.room ≤ hints.old.room }
     requires choice { AreChosen joint.now.terms choice.now }
-    requires room { joint.now.room ≤ hints.old }
-    ensures room { hints.new ≡ hints.old }
+    ensures hints { hints.new ≡ hints.old }
     ensures seen { IfOk result (λ seen. IsSeen joint.now.valid (chosen joint.now.terms choice.now) limit seen) }
 {
     if let Some(text) = hints.recall(alloc, field, joint, choice)? {
@@ -36,7 +38,7 @@ fn seek_or_recall(
     }
     let seen = seek_among(alloc, joint, choice, limit)?;
     if let Seen::Found(text) = &seen {
-        hints.keep(alloc, field, text.as_slice())?;
+        hints.keep(alloc, field, joint, text.as_slice())?;
     }
     Ok(seen)
 }
@@ -50,12 +52,12 @@ fn seek_text(
     path: &[(u32, bool)],
     field: &Field,
     cap: u32,
-    hints: &mut Hints,
+    hints: &mut Hints<'_>,
 ) -> Result<Seen, OutOfMemory>
     requires tables { tables.now.atoms ≡ goal.now.atoms }
     requires asked { required goal.now.atoms path.now field.now ≡ true }
-    requires room { tables.now.room ≤ hints.old }
-    ensures room { hints.new ≡ hints.old }
+    requires hints { hints.old ≡ tables.now }
+    ensures hints { hints.new ≡ hints.old }
     ensures sought { IfOk result (Sought goal.now cap path.now field.now) }
 {
     let limit = if has_user(goal, path, field) {
@@ -80,13 +82,13 @@ fn serve_field(
     path: &[(u32, bool)],
     field: &Field,
     cap: u32,
-    hints: &mut Hints,
+    hints: &mut Hints<'_>,
     draft: &mut Draft,
 ) -> Result<Option<Node>, OutOfMemory>
     requires tables { tables.now.atoms ≡ goal.now.atoms }
     requires asked { required goal.now.atoms path.now field.now ≡ true }
-    requires room { tables.now.room ≤ hints.old }
-    ensures room { hints.new ≡ hints.old }
+    requires hints { hints.old ≡ tables.now }
+    ensures hints { hints.new ≡ hints.old }
     ensures served { (among : AnyField → Bool) → IsDraft goal.now cap path.now among draft.old.texts draft.old.full
         → IfOk result (ServesOn goal.now cap path.now (λ f. among f || same field.now f) draft.new.texts draft.new.full) }
 {
@@ -143,11 +145,11 @@ pub fn serve(
     tables: &Tables<'_>,
     path: &[(u32, bool)],
     cap: u32,
-    hints: &mut Hints,
+    hints: &mut Hints<'_>,
 ) -> Result<Service, OutOfMemory>
     requires tables { tables.now.atoms ≡ goal.now.atoms }
-    requires room { tables.now.room ≤ hints.old }
-    ensures room { hints.new ≡ hints.old }
+    requires hints { hints.old ≡ tables.now }
+    ensures hints { hints.new ≡ hints.old }
     ensures served { IfOk result (Serves goal.now cap path.now) }
 {
     let fields = required_fields(alloc, goal, path)?;

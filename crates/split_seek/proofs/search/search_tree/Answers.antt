@@ -15,7 +15,7 @@ loop-more-preserved-in-Leaf c =
           (leaves_at c.args.goal.now c.args.cap c.args.splits c.loop-more.spent c.loop-more.whole c.in_ok-more-in-Leaf.more c.loop-more.trail.path c.turn.new.self.path
           c.loop-more.nodes c.in-Leaf.node s seen.0 seen.1 c.in_ok-more-in-Leaf.ensures.waits);
       count = c.in_ok-more-in-Leaf.ensures.count ∙ c.loop-more.invariant.count;
-      room = rw c.look_at.ensures.room c.loop-more.invariant.room;
+      hints = c.look_at.ensures.hints ∙ c.loop-more.invariant.hints;
     }
 
 pub returns-then-spent-splits-clause-answer : goal.returns-then-spent-splits-clause-answer
@@ -44,7 +44,7 @@ loop-more-preserved c =
       searched = rw (c.loop-more-test.true, c.in_ok-push-in-Open.ensures.ok, c.in_ok-decide-in-Open.ensures.path)
           (splits_on c.args.goal.now c.args.cap c.args.splits c.loop-more.spent c.loop-more.whole c.loop-more.trail.path c.loop-more.nodes c.in-Open.atom s seen (omega arith));
       count = c.in_ok-decide-in-Open.ensures.count ∙ c.loop-more.invariant.count;
-      room = rw c.look_at.ensures.room c.loop-more.invariant.room;
+      hints = c.look_at.ensures.hints ∙ c.loop-more.invariant.hints;
     }
 
 pub returns-then-whole-clause-answer : goal.returns-then-whole-clause-answer

@@ -24,7 +24,7 @@ loop-field-preserved c =
     record {
       draft = draft_fewer c.args.goal.now c.args.cap c.args.path.now (λ f. is_among f (take i list) || same_field c.field-item.result f) (λ f. is_among f (take (i + 1) list)) _ _
           (among_more list i c.field-item.result c.loop-field-test.true c.field-item.is) d;
-      room = c.in_ok-node.ensures.room ∙ c.loop-field.invariant.room;
+      hints = c.in_ok-node.ensures.hints ∙ c.loop-field.invariant.hints;
     }
 
 pub returns-in-Some-full-clause-served : goal.returns-in-Some-full-clause-served
