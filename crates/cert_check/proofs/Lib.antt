@@ -5,3 +5,4 @@ pub mod Rebuilt
 pub mod OneGuard
 pub mod OneGoal
 pub mod RowLaws
+pub mod Holding

@@ -8,6 +8,7 @@ mod reading;
 mod rows;
 mod truth;
 
+pub use goal_tables::SharedTables;
 pub use laws::one_goal_law;
 pub use nodes::{check_nodes, check_unfinished};
 pub use rows::{check_goal_row, check_row};

@@ -11,6 +11,7 @@ ghost use Rattle.cert_check.specs.Counts.{Fits};
 
 use crate::reading::reads;
 use goal_form::{Goal, Node};
+use goal_tables::{SharedTables, Tables};
 use std::alloc::Global;
 use text_base::OutOfMemory;
 
@@ -86,16 +87,57 @@ fn counts_fit(nodes: &[Node], splits: u32) -> bool
     }
 }
 
-/// Whether the nodes are exactly one tree of splits in which each leaf shows that the goal is true at no request there. Where
-/// they are, the goal is true at no valid request.
-pub fn check_nodes(alloc: Global, goal: &Goal, nodes: &[Node]) -> Result<bool, OutOfMemory>
+/// Whether the nodes refute the goal whose tables these are. The cap plays no part, as no node is unfinished.
+pub(crate) fn nodes_refute(
+    alloc: Global,
+    goal: &Goal,
+    tables: &Tables<'_>,
+    nodes: &[Node],
+) -> Result<bool, OutOfMemory>
+    requires { tables.now.atoms ≡ goal.now.atoms }
     ensures exact { IfOk result (λ yes. IsTrue yes ↔ Refutes goal.now nodes.now) }
     ensures sound { IfOk result (λ yes. IsTrue yes → (q : Asked) → is_valid q ≡ true → is_true_at q goal.now ≡ false) }
 {
     if has_unfinished(nodes) {
         return Ok(false);
     }
-    reads(alloc, goal, nodes, 0)
+    reads(alloc, goal, tables, nodes, 0)
+}
+
+/// Whether the nodes are a tree that was given up, of the goal whose tables these are.
+pub(crate) fn are_unfinished(
+    alloc: Global,
+    goal: &Goal,
+    tables: &Tables<'_>,
+    nodes: &[Node],
+    splits: u32,
+    cap: u32,
+) -> Result<bool, OutOfMemory>
+    requires { tables.now.atoms ≡ goal.now.atoms }
+    ensures { IfOk result (λ yes. IsTrue yes ↔ Unfinished goal.now nodes.now splits cap) }
+{
+    if !counts_fit(nodes, splits) {
+        return Ok(false);
+    }
+    if !has_unfinished(nodes) {
+        return Ok(false);
+    }
+    if !rests_are_last(nodes) {
+        return Ok(false);
+    }
+    reads(alloc, goal, tables, nodes, cap)
+}
+
+/// Whether the nodes are exactly one tree of splits in which each leaf shows that the goal is true at no request there. Where
+/// they are, the goal is true at no valid request.
+pub fn check_nodes(alloc: Global, goal: &Goal, nodes: &[Node]) -> Result<bool, OutOfMemory>
+    ensures exact { IfOk result (λ yes. IsTrue yes ↔ Refutes goal.now nodes.now) }
+    ensures sound { IfOk result (λ yes. IsTrue yes → (q : Asked) → is_valid q ≡ true → is_true_at q goal.now ≡ false) }
+{
+    let mut shared = SharedTables::new(alloc)?;
+    let places = shared.places(alloc, goal)?;
+    let tables = Tables::of(goal, &shared, places);
+    nodes_refute(alloc, goal, &tables, nodes)
 }
 
 /// Whether the nodes are a tree of the goal that was given up: all of so many splits were spent, or a field with a pattern of
@@ -109,14 +151,8 @@ pub fn check_unfinished(
 ) -> Result<bool, OutOfMemory>
     ensures { IfOk result (λ yes. IsTrue yes ↔ Unfinished goal.now nodes.now splits cap) }
 {
-    if !counts_fit(nodes, splits) {
-        return Ok(false);
-    }
-    if !has_unfinished(nodes) {
-        return Ok(false);
-    }
-    if !rests_are_last(nodes) {
-        return Ok(false);
-    }
-    reads(alloc, goal, nodes, cap)
+    let mut shared = SharedTables::new(alloc)?;
+    let places = shared.places(alloc, goal)?;
+    let tables = Tables::of(goal, &shared, places);
+    are_unfinished(alloc, goal, &tables, nodes, splits, cap)
 }

@@ -21,10 +21,16 @@ fn seen_after(seen: bool, node: &Node) -> bool
 }
 
 /// Whether the nodes are exactly one tree in which each node may stand where it stands.
-pub fn reads(alloc: Global, goal: &Goal, nodes: &[Node], cap: u32) -> Result<bool, OutOfMemory>
+pub fn reads(
+    alloc: Global,
+    goal: &Goal,
+    tables: &Tables<'_>,
+    nodes: &[Node],
+    cap: u32,
+) -> Result<bool, OutOfMemory>
+    requires { tables.now.atoms ≡ goal.now.atoms }
     ensures { IfOk result (λ yes. IsTrue yes ↔ ReadsOn goal.now cap false ([] ∷ []) nodes.now) }
 {
-    let tables = Tables::build(alloc, goal)?;
     let mut trail = Trail::new(alloc, goal.atoms.count())?;
     let mut more = true;
     let mut seen = false;
@@ -38,7 +44,7 @@ pub fn reads(alloc: Global, goal: &Goal, nodes: &[Node], cap: u32) -> Result<boo
             }
             trail.decide(*atom, true)?;
         } else {
-            if !may_leave(alloc, goal, &tables, &trail, node, cap, seen)? {
+            if !may_leave(alloc, goal, tables, &trail, node, cap, seen)? {
                 return Ok(false);
             }
             seen = seen_after(seen, node);

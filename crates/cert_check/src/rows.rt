@@ -12,11 +12,12 @@ ghost use Rattle.goal_build.specs.Goals.{IsGoal};
 ghost use Rattle.cert_check.specs.LawfulRows.{AreBudgets, IsLawfulRow};
 ghost use Rattle.cert_check.specs.GoalRows.{IsBodyOf};
 
-use crate::nodes::{check_nodes, check_unfinished};
+use crate::nodes::{are_unfinished, nodes_refute};
 use crate::truth::is_true;
 use cfg_types::Config;
 use goal_build::goal;
 use goal_form::{Goal, Row, RowBody};
+use goal_tables::{SharedTables, Tables};
 use req_model::Request;
 use std::alloc::Global;
 use text_base::OutOfMemory;
@@ -29,20 +30,32 @@ fn are_budgets(splits: u32, states: u32) -> bool
 }
 
 /// Whether the goal is true at the request, which is valid by its type.
-fn check_request(alloc: Global, goal: &Goal, request: &Request) -> Result<bool, OutOfMemory>
+fn check_request(
+    alloc: Global,
+    goal: &Goal,
+    tables: &Tables<'_>,
+    request: &Request,
+) -> Result<bool, OutOfMemory>
+    requires { tables.now.atoms ≡ goal.now.atoms }
     ensures { IfOk result (λ yes. IsTrue yes ↔ ((is_valid request.now ≡ true) × (is_true_at request.now goal.now ≡ true))) }
 {
     let _ = request.parts();
-    is_true(alloc, goal, request)
+    is_true(alloc, goal, tables, request)
 }
 
 /// Whether the body shows what it says of the goal.
-fn check_body(alloc: Global, goal: &Goal, body: &RowBody) -> Result<bool, OutOfMemory>
+fn check_body(
+    alloc: Global,
+    goal: &Goal,
+    tables: &Tables<'_>,
+    body: &RowBody,
+) -> Result<bool, OutOfMemory>
+    requires { tables.now.atoms ≡ goal.now.atoms }
     ensures { IfOk result (λ yes. IsTrue yes ↔ IsBodyOf goal.now body.now) }
 {
     match body {
-        RowBody::Reached(request) => check_request(alloc, goal, request),
-        RowBody::Refuted(nodes) => check_nodes(alloc, goal, nodes.as_slice()),
+        RowBody::Reached(request) => check_request(alloc, goal, tables, request),
+        RowBody::Refuted(nodes) => nodes_refute(alloc, goal, tables, nodes.as_slice()),
         RowBody::Undecided {
             nodes,
             splits,
@@ -51,17 +64,19 @@ fn check_body(alloc: Global, goal: &Goal, body: &RowBody) -> Result<bool, OutOfM
             if !are_budgets(*splits, *states) {
                 return Ok(false);
             }
-            check_unfinished(alloc, goal, nodes.as_slice(), *splits, *states)
+            are_unfinished(alloc, goal, tables, nodes.as_slice(), *splits, *states)
         }
     }
 }
 
 /// Whether the row is lawful for the route of this number, which is below the count, where the route's goal is made already.
+/// The tables that the goal lacks are added to the shared ones, so that goals of one host mostly find theirs there.
 pub fn check_goal_row(
     alloc: Global,
     config: &Config,
     route: u32,
     goal: &Goal,
+    shared: &mut SharedTables,
     row: &Row,
 ) -> Result<bool, OutOfMemory>
     requires lawful { IsLawful config.now }
@@ -73,7 +88,9 @@ pub fn check_goal_row(
     if !row.route.same(&config.route_at(route).place) {
         return Ok(false);
     }
-    check_body(alloc, goal, &row.body)
+    let places = shared.places(alloc, goal)?;
+    let tables = Tables::of(goal, shared, places);
+    check_body(alloc, goal, &tables, &row.body)
 }
 
 /// Whether the row is lawful for the route of this number, which is below the count. Where it is and tells that the route is
@@ -85,5 +102,6 @@ pub fn check_row(alloc: Global, config: &Config, route: u32, row: &Row) -> Resul
     ensures sound { (nodes : List AnyNode) → row.now.body ≡ Refuted nodes → IfOk result (λ yes. IsTrue yes → (q : Asked) → is_valid q ≡ true → IsSent config.now q route → ⊥) }
 {
     let made = goal(alloc, config, route)?;
-    check_goal_row(alloc, config, route, &made, row)
+    let mut shared = SharedTables::new(alloc)?;
+    check_goal_row(alloc, config, route, &made, &mut shared, row)
 }

@@ -1,37 +1,35 @@
 // Whether a goal is true at a request, found from the request itself.
-ghost use Rattle.std.specs.Prelude.{◌≡◌, map, IfOk};
+ghost use Rattle.std.specs.Prelude.{◌≡◌, ◌≤◌, map, IfOk};
 ghost use Rattle.std.specs.List.{list_all, list_any};
-ghost use Rattle.std.specs.Option.{option_copied};
 ghost use Rattle.text_base.specs.Seen.{seen};
-ghost use Rattle.rx_term.specs.Language.{is_in};
 ghost use Rattle.goal_form.specs.Formulas.{truth_at};
-ghost use Rattle.goal_form.specs.Goals.{atom_at, truths, is_true_at};
+ghost use Rattle.goal_form.specs.Goals.{truths, is_true_at};
 
-use goal_form::{Atom, Atoms, Formula, Goal};
+use goal_form::{Atom, Atoms, Formula, Goal, Scratch};
+use goal_tables::Tables;
 use req_model::Request;
-use rx_auto::{Scratch, Table};
-use rx_term::Term;
 use std::alloc::Global;
 use text_base::OutOfMemory;
 
-fn has_text(alloc: Global, term: &Term, text: &[u8]) -> Result<bool, OutOfMemory>
-    ensures { IfOk result (λ yes. is_in term.now text.now ≡ yes) }
+/// Whether the atom of this number, if it is there, is true at the request.
+fn atom_holds(
+    tables: &Tables<'_>,
+    number: u32,
+    atoms: &Atoms,
+    request: &Request,
+    scratch: &mut Scratch,
+) -> bool
+    requires atoms { tables.now.atoms ≡ atoms.now }
+    requires room { tables.now.room ≤ scratch.old }
+    ensures answer { result ≡ truths (seen request.now) atoms.now number }
+    ensures room { scratch.new ≡ scratch.old }
 {
-    let table = Table::build(alloc, term)?;
-    let mut scratch = Scratch::new(alloc, table.room())?;
-    Ok(table.matches(text, &mut scratch))
-}
-
-/// Whether the atom, if it is there, is true at the request.
-fn atom_holds(alloc: Global, atom: Option<&Atom>, request: &Request) -> Result<bool, OutOfMemory>
-    ensures { IfOk result (λ yes. atom_at (seen request.now) (option_copied atom.entry) ≡ yes) }
-{
-    match atom {
-        None => Ok(false),
-        Some(Atom::Present(field)) => Ok(request.see(field).is_some()),
-        Some(Atom::Within { field, term, .. }) => match request.see(field) {
-            None => Ok(false),
-            Some(text) => has_text(alloc, term, text),
+    match atoms.get(number) {
+        None => false,
+        Some(Atom::Present(field)) => request.see(field).is_some(),
+        Some(Atom::Within { field, .. }) => match request.see(field) {
+            None => false,
+            Some(text) => tables.holds(number, text, scratch),
         },
     }
 }
@@ -39,60 +37,79 @@ fn atom_holds(alloc: Global, atom: Option<&Atom>, request: &Request) -> Result<b
 /// Whether the formula is true at the request. Only the atoms that decide it are looked at.
 #[cycle(truth)]
 fn holds(
-    alloc: Global,
+    tables: &Tables<'_>,
     formula: &Formula,
     atoms: &Atoms,
     request: &Request,
-) -> Result<bool, OutOfMemory>
-    ensures { IfOk result (λ yes. truth_at (truths (seen request.now) atoms.now) formula.now ≡ yes) }
+    scratch: &mut Scratch,
+) -> bool
+    requires atoms { tables.now.atoms ≡ atoms.now }
+    requires room { tables.now.room ≤ scratch.old }
+    ensures answer { result ≡ truth_at (truths (seen request.now) atoms.now) formula.now }
+    ensures room { scratch.new ≡ scratch.old }
 {
     match formula {
-        Formula::Yes => Ok(true),
-        Formula::No => Ok(false),
-        Formula::Leaf(number) => atom_holds(alloc, atoms.get(*number), request),
-        Formula::All(members) => all_hold(alloc, members.as_slice(), atoms, request),
-        Formula::Any(members) => any_holds(alloc, members.as_slice(), atoms, request),
-        Formula::Not(member) => Ok(!holds(alloc, member.get(), atoms, request)?),
+        Formula::Yes => true,
+        Formula::No => false,
+        Formula::Leaf(number) => atom_holds(tables, *number, atoms, request, scratch),
+        Formula::All(members) => all_hold(tables, members.as_slice(), atoms, request, scratch),
+        Formula::Any(members) => any_holds(tables, members.as_slice(), atoms, request, scratch),
+        Formula::Not(member) => !holds(tables, member.get(), atoms, request, scratch),
     }
 }
 
 #[cycle(truth)]
 fn all_hold(
-    alloc: Global,
+    tables: &Tables<'_>,
     members: &[Formula],
     atoms: &Atoms,
     request: &Request,
-) -> Result<bool, OutOfMemory>
-    ensures { IfOk result (λ yes. list_all (λ t. t) (map (truth_at (truths (seen request.now) atoms.now)) members.now) ≡ yes) }
+    scratch: &mut Scratch,
+) -> bool
+    requires atoms { tables.now.atoms ≡ atoms.now }
+    requires room { tables.now.room ≤ scratch.old }
+    ensures answer { result ≡ list_all (λ t. t) (map (truth_at (truths (seen request.now) atoms.now)) members.now) }
+    ensures room { scratch.new ≡ scratch.old }
 {
     for member in members {
-        if !holds(alloc, member, atoms, request)? {
-            return Ok(false);
+        if !holds(tables, member, atoms, request, scratch) {
+            return false;
         }
     }
-    Ok(true)
+    true
 }
 
 #[cycle(truth)]
 fn any_holds(
-    alloc: Global,
+    tables: &Tables<'_>,
     members: &[Formula],
     atoms: &Atoms,
     request: &Request,
-) -> Result<bool, OutOfMemory>
-    ensures { IfOk result (λ yes. list_any (λ t. t) (map (truth_at (truths (seen request.now) atoms.now)) members.now) ≡ yes) }
+    scratch: &mut Scratch,
+) -> bool
+    requires atoms { tables.now.atoms ≡ atoms.now }
+    requires room { tables.now.room ≤ scratch.old }
+    ensures answer { result ≡ list_any (λ t. t) (map (truth_at (truths (seen request.now) atoms.now)) members.now) }
+    ensures room { scratch.new ≡ scratch.old }
 {
     for member in members {
-        if holds(alloc, member, atoms, request)? {
-            return Ok(true);
+        if holds(tables, member, atoms, request, scratch) {
+            return true;
         }
     }
-    Ok(false)
+    false
 }
 
 /// Whether the goal is true at the request. Nothing of the search or of routing is asked.
-pub(crate) fn is_true(alloc: Global, goal: &Goal, request: &Request) -> Result<bool, OutOfMemory>
+pub(crate) fn is_true(
+    alloc: Global,
+    goal: &Goal,
+    tables: &Tables<'_>,
+    request: &Request,
+) -> Result<bool, OutOfMemory>
+    requires { tables.now.atoms ≡ goal.now.atoms }
     ensures { IfOk result (λ yes. is_true_at request.now goal.now ≡ yes) }
 {
-    holds(alloc, &goal.formula, &goal.atoms, request)
+    let mut scratch = Scratch::new(alloc, tables.room())?;
+    Ok(holds(tables, &goal.formula, &goal.atoms, request, &mut scratch))
 }

@@ -14,7 +14,7 @@ use cfg_types::Config;
 use goal_build::KeptGoals;
 use goal_form::{Row, RowBody};
 use outside::{Sink, WriteFail, write_whole};
-use split_seek::{Finding, analyse};
+use split_seek::{Finding, SharedTables, analyse_with};
 use std::alloc::Global;
 use text_base::OutOfMemory;
 
@@ -38,6 +38,7 @@ fn row_of(
     alloc: Global,
     config: &Config,
     goals: &mut KeptGoals,
+    shared: &mut SharedTables,
     route: u32,
     budgets: Budgets,
 ) -> Result<Row, OutOfMemory>
@@ -49,7 +50,7 @@ fn row_of(
     ensures row { IfOk result (IsSearchedRow config.now budgets route) }
 {
     let goal = goals.goal(alloc, config, route)?;
-    let finding = analyse(alloc, &goal, budgets.splits, budgets.states)?;
+    let finding = analyse_with(alloc, &goal, shared, budgets.splits, budgets.states)?;
     Ok(Row {
         route: config.route_at(route).place.copy(alloc)?,
         body: body_of(finding, budgets),
@@ -69,8 +70,9 @@ pub fn write_rows<K: Sink>(
 {
     let mut goals = KeptGoals::new();
     let mut counts = Counts::none();
+    let mut shared = SharedTables::new(alloc)?;
     for route in 0..config.route_count() {
-        let row = row_of(alloc, config, &mut goals, route, budgets)?;
+        let row = row_of(alloc, config, &mut goals, &mut shared, route, budgets)?;
         let line = write_row(alloc, &row)?;
         write_whole(out, &line)?;
         counts = counts.with(&row.body);

@@ -18,7 +18,7 @@ ghost use Rattle.check_core.specs.Steps.{EndedEither};
 use crate::calls::VerifyWords;
 use crate::input::{ConfigFile, read_input};
 use crate::status::Status;
-use cert_check::check_goal_row;
+use cert_check::{SharedTables, check_goal_row};
 use cert_rows::{RowFault, read_row};
 use cfg_types::Config;
 use goal_build::KeptGoals;
@@ -62,6 +62,7 @@ fn is_lawful_line(
     alloc: Global,
     config: &Config,
     goals: &mut KeptGoals,
+    shared: &mut SharedTables,
     route: u32,
     line: &[u8],
 ) -> Result<bool, OutOfMemory>
@@ -74,7 +75,7 @@ fn is_lawful_line(
     match read_row(alloc, line) {
         Ok(row) => {
             let goal = goals.goal(alloc, config, route)?;
-            check_goal_row(alloc, config, route, &goal, &row)
+            check_goal_row(alloc, config, route, &goal, shared, &row)
         }
         Err(RowFault::OutOfMemory) => Err(OutOfMemory),
         Err(_) => Ok(false),
@@ -99,11 +100,12 @@ fn judge_report<F: Files>(
     let count = config.route_count();
     let mut lines = Lines::new(alloc)?;
     let mut goals = KeptGoals::new();
+    let mut shared = SharedTables::new(alloc)?;
     for route in 0..count {
         let Some(line) = lines.next(alloc, files, name, LINE_LIMIT)? else {
             return Ok(Verdict::Rejected(route + 1));
         };
-        if !is_lawful_line(alloc, config, &mut goals, route, &line)? {
+        if !is_lawful_line(alloc, config, &mut goals, &mut shared, route, &line)? {
             return Ok(Verdict::Rejected(route + 1));
         }
     }

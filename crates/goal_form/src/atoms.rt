@@ -105,6 +105,15 @@ impl Atoms {
         self.list.get(number as usize)
     }
 
+    /// The number of an equal atom, if there is one. Takes no memory.
+    pub fn find(&self, atom: &Atom) -> Option<u32>
+        ensures found { IfSome result (λ k. slice_get self.now k ≡ Some atom.now) }
+        ensures none { IfNone result (Contains self.now atom.now → ⊥) }
+    {
+        let place = known(self.list.as_slice(), &self.places, digest_of(atom), atom)?;
+        Some(place as u32)
+    }
+
     /// The atoms in order. No atom stands twice. Takes no memory.
     pub fn as_slice(&self) -> &[Atom]
         ensures list { result.now ≡ self.now }

@@ -1,51 +1,80 @@
--- What a look-up tells.
-use Rattle.std.proofs.Common.{◌≡◌, ℕ, ◌<◌, Bool, true, false, List, Option, Some, None, IfNone, is_some, slice_get, length, Bor, take, get_or, refl, sym, ap, subst, ◌∙◌, arith}
-use Rattle.std.specs.Option.{option_copied}
+-- What a place, and what an atom of a field, tell.
+use Rattle.std.proofs.Common.{◌≡◌, ℕ, ◌<◌, List, ◌++◌, ◌∷◌, [], Bool, length, Some, slice_get, sym, ap, subst, ◌∙◌, inl, inr, arith}
+use Rattle.std.proofs.lemmas.Option.{slice_get_within, slice_get_cases}
 use Rattle.text_base.specs.declared.request.Field.{Field}
-use Rattle.rx_joint.specs.Meanings.{JointMeaning}
-use Rattle.goal_form.specs.declared.atom.Atom.{Atom}
-use Rattle.goal_form.specs.Formulas.{Path}
-use Rattle.goal_form.specs.Goals.{is_required}
-use Rattle.goal_tables.specs.declared.fields.FieldTables.{FieldTables}
-use Rattle.std.proofs.lemmas.Option.{slice_get_within}
-use Rattle.std.proofs.lemmas.Grind.{get_or_default_zero}
+use Rattle.text_base.specs.declared.request.Field.TheVariants as field
 use Rattle.rx_term.specs.declared.terms.Term.{Term}
+use Rattle.goal_form.specs.declared.atom.Atom.{Atom}
 use Rattle.goal_form.specs.declared.atom.Atom.TheVariants.{Within}
-use Rattle.goal_tables.specs.Fields.{terms_of, joint_for, AreKnown, AreTables}
-use Rattle.goal_tables.proofs.Requiring.{required_named, within_named}
-use Rattle.goal_tables.proofs.TermNumbers.{IsNumber, number_at}
+use Rattle.goal_form.specs.Goals.{field_in}
+use Rattle.goal_tables.specs.declared.fields.FieldTables.{FieldTables}
+use Rattle.goal_tables.specs.declared.fields.Place.{Place}
+use Rattle.goal_tables.specs.Fields.{IsFieldAt, HasField, HasAlways, AreFields, IsTermOf, IsPlaced, ArePlaced, Extends}
+use Rattle.goal_tables.specs.Tables.{AreShared, NamesField, IsSilent}
+use Rattle.goal_tables.proofs.Places.{one_place}
+use Rattle.goal_tables.proofs.Growing.{are_placed_more, are_placed_push, always_more}
+use Rattle.goal_tables.proofs.Claims.{other_silent}
 
-pub copied_some : {A : Type 0} (o : Option (Bor A)) → is_some (option_copied o) ≡ is_some o
-copied_some None = refl
-copied_some (Some x) = refl
+pub same_within : {f g : Field} {s t : Term} {u v : Bool} → Within f s u ≡ Within g t v → s ≡ t
+same_within e = cc
 
-pub none_required : (o : Option (Bor JointMeaning)) (atoms : List Atom) (es : List FieldTables) (f : Field) → option_copied o ≡ joint_for es f → AreKnown atoms es →
-    IfNone o ((path : Path) → is_required atoms path f ≡ true → ⊥)
-none_required (Some x) atoms es f e known = tt
-none_required None atoms es f e known = λ path h.
-    let some = known f (required_named atoms path f h) in
-    let none : is_some (joint_for es f) ≡ false = ap is_some (sym e) in
-    cc
+atom_there : (atoms : List Atom) (k n : ℕ) → n ≡ length atoms → k < n → (a : Atom) × (slice_get atoms k ≡ Some a)
+atom_there atoms k n long lt = elim (slice_get_cases atoms k).1 [ inl h ↦ (h.0, h.2) | inr h ↦ absurd (let past = h.0 in omega arith) ]
 
--- ---- an atom's table
+module _ (atoms : List Atom) (fields : List FieldTables) (places : List Place) (placed : ArePlaced fields atoms places) (k at : ℕ) (p : Place) (here : slice_get places k ≡ Some p) where
+  pub names_at : p.field ≡ at → NamesField atoms fields k at p.term
+  names_at e =
+      let a = atom_there atoms k (length places) placed.long (slice_get_within places k p here) in
+      let s = placed.each k a.0 p a.1 here in
+      record { atom = a.0; is = a.1; entry = s.entry; there = subst (λ n. slice_get fields n ≡ Some s.entry) e s.there; same = s.same; term = s.term }
 
-module _ (atoms : List Atom) (es : List FieldTables) (numbers : List ℕ) (room : ℕ) (t : AreTables atoms es numbers room) (k : ℕ) (f : Field) (term : Term) (user : Bool)
-    (here : slice_get atoms k ≡ Some (Within f term user)) where
-  pub never_none : joint_for es f ≡ None → ⊥
-  never_none e =
-      let some = t.known f (within_named atoms k f term user here) in
-      let none : is_some (joint_for es f) ≡ false = ap is_some e in
-      cc
+  pub silent_at : AreFields fields → (p.field ≡ at → ⊥) → (f : Field) → IsFieldAt fields at f → IsSilent (slice_get atoms k) f
+  silent_at formed other f d =
+      let a = atom_there atoms k (length places) placed.long (slice_get_within places k p here) in
+      let s = placed.each k a.0 p a.1 here in
+      subst (λ o. IsSilent o f) (sym a.1) (other_silent a.0 f (λ same. other (formed.apart p.field at s.entry d.0 s.there d.1 (s.same ∙ same ∙ sym d.2))))
 
-  pub number_is : (j : JointMeaning) (n : ℕ) → joint_for es f ≡ Some j → n ≡ get_or numbers k n → IsNumber j.terms n term
-  number_is j n e at =
-      let within = slice_get_within atoms k (Within f term user) here in
-      let long = t.made.long in
-      let zero_at : get_or numbers k n ≡ get_or numbers k 0 = get_or_default_zero numbers k n (omega arith) in
-      let known = t.known f (within_named atoms k f term user here) in
-      let number : n ≡ length (terms_of (take k atoms) f) = at ∙ zero_at ∙ t.made.numbered f known k term user here in
-      let own : terms_of atoms f ≡ j.terms = sym ((t.made.joints f j e).terms) in
-      subst (λ ts. IsNumber ts n term) own (subst (λ m. IsNumber (terms_of atoms f) m term) (sym number) (number_at atoms f k term user here))
+module _ (atoms : List Atom) (fields : List FieldTables) (k at n : ℕ) (s : NamesField atoms fields k at n) (f : Field) (d : IsFieldAt fields at f) where
+  pub names_field : (a : Atom) → slice_get atoms k ≡ Some a → field_in a ≡ f
+  names_field a e =
+      let one : s.atom ≡ a = one_place atoms k s.atom a s.is e in
+      let entry : s.entry ≡ d.0 = one_place fields at s.entry d.0 s.there d.1 in
+      ap field_in (sym one) ∙ sym s.same ∙ ap (λ x. x.field) entry ∙ d.2
 
-pub same_within : {f g : Field} {s t : Term} {u v : Bool} {o : Option Atom} → o ≡ Some (Within f s u) → o ≡ Some (Within g t v) → s ≡ t
-same_within a b = cc
+  pub names_term : (entry : FieldTables) → slice_get fields at ≡ Some entry → (g : Field) (term : Term) (own : Bool) → slice_get atoms k ≡ Some (Within g term own) → slice_get entry.joint.terms n ≡ Some term
+  names_term entry there g term own e =
+      let one : s.atom ≡ Within g term own = one_place atoms k s.atom (Within g term own) s.is e in
+      let same : s.entry ≡ entry = one_place fields at s.entry entry s.there there in
+      subst (λ x. slice_get x.joint.terms n ≡ Some term) same (subst (IsTermOf s.entry.joint.terms n) one s.term)
+
+pub field_is : (fields : List FieldTables) (at : ℕ) (entry : FieldTables) (f : Field) → slice_get fields at ≡ Some entry → IsFieldAt fields at f → entry.field ≡ f
+field_is fields at entry f here d = ap (λ x. x.field) (one_place fields at entry d.0 here d.1) ∙ d.2
+
+-- the term of an atom by its place
+pub term_placed : (fields : List FieldTables) (p : Place) (f : Field) (term : Term) (user : Bool) → IsPlaced fields (Within f term user) p → (entry : FieldTables) → slice_get fields p.field ≡ Some entry →
+    slice_get entry.joint.terms p.term ≡ Some term
+term_placed fields p f term user s entry there =
+    subst (λ x. slice_get x.joint.terms p.term ≡ Some term) (one_place fields p.field s.entry entry s.there there) s.term
+
+-- ---- shared tables
+
+module _ (old new : List FieldTables) (atoms : List Atom) (places : List Place) (s : AreShared old atoms places) (formed : AreFields new) (more : Extends old new) where
+  pub shared_more : AreShared new atoms places
+  shared_more = record { formed = formed; always = always_more old new more s.always; placed = are_placed_more old new atoms places more s.placed }
+
+  pub shared_push : (a : Atom) (p : Place) → IsPlaced new a p → AreShared new (atoms ++ a ∷ []) (places ++ p ∷ [])
+  shared_push a p here = record {
+    formed = formed;
+    always = always_more old new more s.always;
+    placed = are_placed_push new atoms places a p (are_placed_more old new atoms places more s.placed) here;
+  }
+
+pub always_five : (es : List FieldTables) → HasField es field.Authority → HasField es field.Target → HasField es field.Method → HasField es field.Proto → HasField es field.Random → HasAlways es
+always_five es a t m p r field.Authority e = a
+always_five es a t m p r field.Target e = t
+always_five es a t m p r field.Method e = m
+always_five es a t m p r field.Proto e = p
+always_five es a t m p r field.Random e = r
+always_five es a t m p r field.Runtime e = cc
+always_five es a t m p r field.Internal e = cc
+always_five es a t m p r (field.Header name) e = cc

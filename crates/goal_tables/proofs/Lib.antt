@@ -1,6 +1,5 @@
-pub mod TermNumbers
-pub mod Numbering
-pub mod Choices
-pub mod Adding
+pub mod Places
+pub mod Growing
 pub mod Requiring
+pub mod Claims
 pub mod Found

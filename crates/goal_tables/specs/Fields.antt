@@ -1,6 +1,5 @@
--- The tables of a goal's fields.
-use Rattle.std.specs.Prelude.{◌≡◌, ℕ, ◌≤◌, Bool, true, false, ◌||◌, if◌then◌else◌, List, [], ◌∷◌, ◌++◌, length, take, Option, None, Some, is_some, slice_get, slice_index}
-use Rattle.std.specs.List.{list_any}
+-- Fields with the tables of their terms, and where atoms find theirs.
+use Rattle.std.specs.Prelude.{◌≡◌, ℕ, ◌++◌, true, if◌then◌else◌, List, [], ◌∷◌, Some, length, slice_get}
 use Rattle.text_base.specs.declared.request.Field.{Field}
 use Rattle.rx_term.specs.declared.terms.Term.{Term}
 use Rattle.rx_joint.specs.Meanings.{JointMeaning}
@@ -10,61 +9,61 @@ use Rattle.goal_form.specs.Fields.{same_field, is_always}
 use Rattle.goal_form.specs.Goals.{field_in}
 use Rattle.goal_form.specs.Valid.{valid_of}
 use Rattle.goal_tables.specs.declared.fields.FieldTables.{FieldTables}
-
--- what contracts see of the tables of a goal: its atoms, and the room that a test of a text needs
-pub record TablesMeaning : Type 0 where
-  pub atoms : List Atom
-  pub room : ℕ
+use Rattle.goal_tables.specs.declared.fields.Place.{Place}
 
 -- the term that an atom names of the field, if any
 abbrev pub term_of : Atom → Field → List Term
 term_of (Present g) f = []
 term_of (Within g term user) f = if same_field g f then term ∷ [] else []
 
--- the atom names a term of the field
-abbrev pub names_term : Option Atom → Field → Bool
-names_term None f = false
-names_term (Some (Present g)) f = false
-names_term (Some (Within g term user)) f = same_field g f
-
 -- the terms that atoms name of the field, in order
 abbrev pub terms_of : List Atom → Field → List Term
 terms_of [] f = []
 terms_of (a ∷ atoms) f = term_of a f ++ terms_of atoms f
 
--- the tables of the field, if it is among the fields
-abbrev pub joint_for : List FieldTables → Field → Option JointMeaning
-joint_for [] f = None
-joint_for (e ∷ es) f = if same_field e.field f then Some e.joint else joint_for es f
+-- the field has this number
+abbrev pub IsFieldAt : List FieldTables → ℕ → Field → Type 0
+IsFieldAt fields i f = (e : FieldTables) × (slice_get fields i ≡ Some e) × (e.field ≡ f)
 
--- requests always have the field, or one of the atoms is about it
-abbrev pub is_named : List Atom → Field → Bool
-is_named atoms f = is_always f || list_any (λ a. same_field (field_in a) f) atoms
+abbrev pub HasField : List FieldTables → Field → Type 0
+HasField fields f = (i : ℕ) × IsFieldAt fields i f
 
--- the tables are those of the field's valid texts and of its terms
-pub record IsJointOf (atoms : List Atom) (f : Field) (j : JointMeaning) : Type 0 where
-  pub valid : j.valid ≡ valid_of f
-  pub terms : j.terms ≡ terms_of atoms f
+-- the field of this number has this term under that one
+abbrev pub HasTermAt : List FieldTables → ℕ → ℕ → Term → Type 0
+HasTermAt fields i n t = (e : FieldTables) × (slice_get fields i ≡ Some e) × (slice_get e.joint.terms n ≡ Some t)
 
--- the atoms of this field have the numbers of their terms
-abbrev pub AreNumbered : List Atom → List ℕ → Field → Type 0
-AreNumbered atoms numbers f = (k : ℕ) (term : Term) (user : Bool) → slice_get atoms k ≡ Some (Within f term user) → slice_index numbers k ≡ length (terms_of (take k atoms) f)
+-- each has the table of its valid texts, and none stands twice
+pub record AreFields (fields : List FieldTables) : Type 0 where
+  pub valid : (i : ℕ) (e : FieldTables) → slice_get fields i ≡ Some e → e.joint.valid ≡ valid_of e.field
+  pub apart : (i j : ℕ) (d e : FieldTables) → slice_get fields i ≡ Some d → slice_get fields j ≡ Some e → d.field ≡ e.field → i ≡ j
 
--- each field of the tables has its own tables, and its atoms have the numbers of their terms
-pub record AreJoints (atoms : List Atom) (fields : List FieldTables) (numbers : List ℕ) : Type 0 where
-  pub long : length numbers ≡ length atoms
-  pub joints : (f : Field) (j : JointMeaning) → joint_for fields f ≡ Some j → IsJointOf atoms f j
-  pub numbered : (f : Field) → is_some (joint_for fields f) ≡ true → AreNumbered atoms numbers f
+-- each field that requests always have is among them
+abbrev pub HasAlways : List FieldTables → Type 0
+HasAlways fields = (f : Field) → is_always f ≡ true → HasField fields f
 
--- the room is enough for each of them
-abbrev pub IsRoomy : List FieldTables → ℕ → Type 0
-IsRoomy fields room = (f : Field) (j : JointMeaning) → joint_for fields f ≡ Some j → j.room ≤ room
+-- the term that the atom names has this number
+abbrev pub IsTermOf : List Term → ℕ → Atom → Type 0
+IsTermOf terms n (Present f) = Unit {0}
+IsTermOf terms n (Within f term user) = slice_get terms n ≡ Some term
 
--- each named field is among them
-abbrev pub AreKnown : List Atom → List FieldTables → Type 0
-AreKnown atoms fields = (f : Field) → is_named atoms f ≡ true → is_some (joint_for fields f) ≡ true
+-- the place is that of the atom's field and term
+pub record IsPlaced (fields : List FieldTables) (a : Atom) (p : Place) : Type 0 where
+  pub entry : FieldTables
+  pub there : slice_get fields p.field ≡ Some entry
+  pub same : entry.field ≡ field_in a
+  pub term : IsTermOf entry.joint.terms p.term a
 
-pub record AreTables (atoms : List Atom) (fields : List FieldTables) (numbers : List ℕ) (room : ℕ) : Type 0 where
-  pub made : AreJoints atoms fields numbers
-  pub known : AreKnown atoms fields
-  pub roomy : IsRoomy fields room
+-- each atom has its place
+pub record ArePlaced (fields : List FieldTables) (atoms : List Atom) (places : List Place) : Type 0 where
+  pub long : length places ≡ length atoms
+  pub each : (k : ℕ) (a : Atom) (p : Place) → slice_get atoms k ≡ Some a → slice_get places k ≡ Some p → IsPlaced fields a p
+
+-- fields and terms keep their numbers, and there may be more of them
+abbrev pub Extends : List FieldTables → List FieldTables → Type 0
+Extends old new = (i : ℕ) (d : FieldTables) → slice_get old i ≡ Some d →
+    (e : FieldTables) × (slice_get new i ≡ Some e) × (e.field ≡ d.field) × ((n : ℕ) (t : Term) → slice_get d.joint.terms n ≡ Some t → slice_get e.joint.terms n ≡ Some t)
+
+-- the tables are those of the field
+pub record IsJointOf (fields : List FieldTables) (f : Field) (j : JointMeaning) : Type 0 where
+  pub there : (i : ℕ) × (e : FieldTables) × (slice_get fields i ≡ Some e) × (e.field ≡ f) × (e.joint ≡ j)
+  pub only : (i : ℕ) (e : FieldTables) → slice_get fields i ≡ Some e → e.field ≡ f → e.joint ≡ j

@@ -1,5 +1,5 @@
 -- Fields that are served, one after the other.
-use Rattle.std.proofs.Common.{◌≡◌, ℕ, ◌<◌, ◌+◌, zero, suc, Bool, true, false, ◌||◌, ◌&&◌, List, [], ◌∷◌, ◌++◌, take, get_or, length, Option, None, Some, is_some, refl, sym, ap, subst, ◌∙◌, cond, ◌⊎◌, inl, inr, arith}
+use Rattle.std.proofs.Common.{◌≡◌, ℕ, ◌<◌, ◌+◌, zero, suc, Bool, true, false, ◌||◌, ◌&&◌, List, [], ◌∷◌, ◌++◌, take, get_or, length, Option, None, Some, is_some, refl, sym, ap, subst, ◌∙◌, cond, ◌⊎◌, inl, inr, Result, Ok, Err, IfOk, arith}
 use Rattle.std.proofs.lemmas.List.Folds.{list_any-append}
 use Rattle.std.proofs.lemmas.List.{take_more}
 use Rattle.text_base.specs.Asked.{Bytes}
@@ -7,6 +7,10 @@ use Rattle.text_base.specs.declared.request.Field.{Field}
 use Rattle.rx_term.specs.Closing.{Meets}
 use Rattle.goal_form.specs.declared.goal.Goal.{Goal}
 use Rattle.goal_form.specs.declared.goal.Node.{Node}
+use Rattle.goal_form.specs.declared.goal.Node.TheVariants as nodes
+use Rattle.field_seek.specs.declared.seen.Seen.{Seen}
+use Rattle.field_seek.specs.declared.seen.Seen.TheVariants.{Found, Empty, Capped}
+use Rattle.field_seek.specs.Seen.{IsSeen}
 use Rattle.goal_form.specs.Fields.{same_field}
 use Rattle.goal_form.specs.Formulas.{Path}
 use Rattle.goal_form.specs.Goals.{is_required, is_claimed_absent, claims_of, has_user}
@@ -14,7 +18,7 @@ use Rattle.goal_form.specs.Shown.{Served}
 use Rattle.goal_form.specs.Valid.{valid_of}
 use Rattle.goal_form.proofs.SameFields.{same_field_is, same_refl}
 use Rattle.split_seek.specs.Texts.{Texts, text_of, AreSingle}
-use Rattle.split_seek.specs.Serving.{FullAt, is_among, IsDraft, IsOpen}
+use Rattle.split_seek.specs.Serving.{FullAt, limit, is_among, IsAdded, IsDraft, IsOpen, ServesOn}
 
 -- ---- one more text at the end
 
@@ -143,6 +147,37 @@ module _ (goal : Goal) (cap : ℕ) (path : Path) (among : Field → Bool) (texts
     filled = is;
   }
 
+-- ---- what a search answers
+
+limit_some : (user : Bool) (cap n : ℕ) → limit user cap ≡ Some n → (user ≡ true) × (n ≡ cap)
+limit_some true cap n e = let same : cap ≡ n = cc in (refl, sym same)
+limit_some false cap n e = cc
+
+module _ (goal : Goal) (cap : ℕ) (path : Path) (among : Field → Bool) (texts : Texts) (full : Option Node) (d : IsDraft goal cap path among texts full)
+    (g : Field) (absent : is_claimed_absent goal.atoms path g ≡ false) (none : is_some (text_of texts g) ≡ false) (asked : is_required goal.atoms path g ≡ true) where
+  abbrev Seen_of : Seen → Type 0
+  Seen_of = IsSeen (valid_of g) (claims_of goal.atoms path g) (limit (has_user goal.atoms path g) cap)
+
+  pub draft_added : (s : Seen) → Seen_of s → (texts' : Texts) (full' node : Option Node) → IsAdded g s texts full texts' full' node →
+      ServesOn goal cap path (λ f. among f || same_field g f) texts' full' node
+  draft_added (Found text) met texts' full' node added =
+      rw (added.0, added.1, added.2) (draft_more goal cap path among texts full d g absent text.items none asked met)
+  draft_added (Empty words) closed texts' full' node added = rw added ((asked, closed.closes), refl)
+  draft_added (Capped words) capped texts' full' node added =
+      let most = limit_some (has_user goal.atoms path g) cap (length words.list) capped.full in
+      rw (added.0, added.1, added.2) (draft_full goal cap path among texts full d g absent (nodes.Capped g words) most.0 (asked, most.0, capped.listed, most.1))
+
+if_ok : {A E : Type 0} (r : Result A E) (P Q : A → Type 0) → IfOk r P → ((a : A) → P a → Q a) → IfOk r Q
+if_ok (Ok a) P Q h k = k a h
+if_ok (Err e) P Q h k = tt
+
+pub served_by : {E : Type 0} (goal : Goal) (cap : ℕ) (path : Path) (among : Field → Bool) (texts : Texts) (full : Option Node) → IsDraft goal cap path among texts full →
+    (g : Field) → is_claimed_absent goal.atoms path g ≡ false → is_some (text_of texts g) ≡ false → is_required goal.atoms path g ≡ true → (s : Seen) →
+    IsSeen (valid_of g) (claims_of goal.atoms path g) (limit (has_user goal.atoms path g) cap) s → (texts' : Texts) (full' : Option Node) (r : Result (Option Node) E) →
+    IfOk r (λ node. IsAdded g s texts full texts' full' node) → IfOk r (ServesOn goal cap path (λ f. among f || same_field g f) texts' full')
+served_by goal cap path among texts full d g absent none asked s seen texts' full' r added =
+    if_ok r _ _ added (λ node h. draft_added goal cap path among texts full d g absent none asked s seen texts' full' node h)
+
 pub draft_none : (goal : Goal) (cap : ℕ) (path : Path) → IsDraft goal cap path (λ f. is_among f []) [] None
 draft_none goal cap path = record { sound = λ f t h. cc; single = tt; done = λ f h e. cc; clear = λ f h. cc; filled = tt }
 
@@ -193,3 +228,18 @@ module _ (goal : Goal) (cap : ℕ) (path : Path) (fields : List Field) (texts : 
       only_at : (f : Field) → is_required goal.atoms path f ≡ false → (o : Option Bytes) → text_of texts f ≡ o → o ≡ None
       only_at f h (Some t) e = let need = (d.sound f t e).0 in cc
       only_at f h None e = refl
+
+-- ---- a field that is added once
+
+either : (x y : Bool) → (y ≡ true → x ≡ true) → x ≡ (x || y)
+either true y h = refl
+either false true h = let no = h refl in cc
+either false false h = refl
+
+pub among_same : (fields : List Field) (i : ℕ) (o g : Field) → i < length fields → o ≡ get_or fields i o → same_field o g ≡ true → (f : Field) → is_among f fields ≡ (is_among f fields || same_field g f)
+among_same fields i o g lt e same f = either (is_among f fields) (same_field g f) (λ h.
+    let there : is_among o fields ≡ true = subst (λ x. is_among x fields ≡ true) (sym e) (among_get fields i o lt) in
+    subst (λ x. is_among x fields ≡ true) (same_field_is o g same ∙ same_field_is g f h) there)
+
+pub among_push : (fields : List Field) (g f : Field) → is_among f (fields ++ g ∷ []) ≡ (is_among f fields || same_field g f)
+among_push fields g f = list_any-append (λ x. same_field x f) fields (g ∷ []) ∙ ap (λ x. is_among f fields || x) (or_false (same_field g f))

@@ -4,7 +4,7 @@ use mathlib.Core.Bool.{not, beq}
 use Rattle.std.proofs.Math.ListN.{replicate, length-replicate}
 use Rattle.std.specs.Global.{Vec}
 use Rattle.std.proofs.lemmas.List.{take_more}
-use Rattle.std.proofs.lemmas.List.Elements.{All-set, All-push}
+use Rattle.std.proofs.lemmas.List.Elements.{All-set, All-push, All-get_or}
 use Rattle.text_base.specs.Asked.{Bytes}
 use Rattle.text_base.specs.declared.request.Field.{Field}
 use Rattle.rx_term.specs.declared.terms.Term.{Term}
@@ -16,7 +16,10 @@ use Rattle.rx_joint.specs.Claims.{chosen}
 use Rattle.rx_joint.proofs.Choosing.{map_push}
 use Rattle.goal_form.specs.Fields.{same_field}
 use Rattle.goal_form.proofs.SameFields.{same_field_is}
-use Rattle.goal_tables.specs.Fields.{TablesMeaning, terms_of}
+use Rattle.rx_joint.specs.Meanings.{JointMeaning}
+use Rattle.goal_tables.specs.Meanings.{TablesMeaning}
+use Rattle.goal_tables.specs.Fields.{IsJointOf}
+use Rattle.goal_tables.specs.declared.fields.FieldTables.{FieldTables}
 use Rattle.split_seek.specs.declared.kept.Kept.{Kept}
 use Rattle.split_seek.specs.Known.{IsKnown, IsKept, AreHints, IsPlaceOf}
 
@@ -50,30 +53,36 @@ field_found : (kept : List Kept) (field : Field) (place : ℕ) (entry : Kept) �
 field_found kept field place entry p e =
     same_field_is entry.field field (subst (λ (x : Kept). same_field x.field field ≡ true) (sym e) (p.same entry))
 
-abbrev of_field : (tables : TablesMeaning) (field : Field) (terms : List Term) (entry : Kept) → terms ≡ terms_of tables.atoms field → entry.field ≡ field →
-    IsKnown terms entry.text entry.known.items → IsKept tables.atoms entry
-of_field tables field terms entry e same known =
-    subst (λ f. IsKnown (terms_of tables.atoms f) entry.text entry.known.items) (sym same) (subst (λ ts. IsKnown ts entry.text entry.known.items) e known)
+of_field : (fields : List FieldTables) (field : Field) (j : JointMeaning) (entry : Kept) → IsJointOf fields field j → entry.field ≡ field → In entry.text j.valid → IsKnown j.terms entry.text entry.known.items → IsKept fields entry
+of_field fields field j entry s same valid known i e h is =
+    let own : j ≡ e.joint = sym (s.only i e h (is ∙ same)) in
+    (subst (λ (x : JointMeaning). In entry.text x.valid) own valid, subst (λ (x : JointMeaning). IsKnown x.terms entry.text entry.known.items) own known)
 
-module _ (tables : TablesMeaning) (kept : List Kept) (room : ℕ) (h : AreHints tables kept room) (field : Field) (terms : List Term) (e : terms ≡ terms_of tables.atoms field)
-    (entry : Kept) (same : entry.field ≡ field) (known : IsKnown terms entry.text entry.known.items) where
-  pub hints_set : (place : ℕ) → AreHints tables (set kept place entry) room
-  hints_set place = record {
-    roomy = h.roomy;
-    right = All-set (IsKept tables.atoms) kept place entry (of_field tables field terms entry e same known) h.right;
-  }
+module _ (tables : TablesMeaning) (kept : List Kept) (room : ℕ) (h : AreHints tables kept room) (field : Field) (j : JointMeaning) (s : IsJointOf tables.fields field j) where
+  -- the field's text is valid by the tables, and what is known of it is so of their terms
+  pub known_of : (place : ℕ) (entry : Kept) → IsPlaceOf kept field place → entry ≡ get_or kept place entry → In entry.text j.valid × IsKnown j.terms entry.text entry.known.items
+  known_of place entry p is =
+      let all : IsKept tables.fields entry = subst (IsKept tables.fields) (sym is) (All-get_or (IsKept tables.fields) kept place entry p.within h.right) in
+      let t = s.there in
+      subst (λ (x : JointMeaning). In entry.text x.valid × IsKnown x.terms entry.text entry.known.items) t.4 (all t.0 t.1 t.2 (t.3 ∙ sym (field_found kept field place entry p is)))
 
-  pub hints_push : AreHints tables (kept ++ entry ∷ []) room
-  hints_push = record {
-    roomy = h.roomy;
-    right = All-push (IsKept tables.atoms) kept entry h.right (of_field tables field terms entry e same known);
-  }
+  module _ (entry : Kept) (same : entry.field ≡ field) (valid : In entry.text j.valid) (known : IsKnown j.terms entry.text entry.known.items) where
+    pub hints_set : (place : ℕ) → AreHints tables (set kept place entry) room
+    hints_set place = record {
+      roomy = h.roomy;
+      right = All-set (IsKept tables.fields) kept place entry (of_field tables.fields field j entry s same valid known) h.right;
+    }
 
-pub hints_tested : (tables : TablesMeaning) (kept : List Kept) (room : ℕ) → AreHints tables kept room → (field : Field) (terms : List Term) → terms ≡ terms_of tables.atoms field →
-    (place : ℕ) (entry : Kept) (known : Vec (Option Bool)) → IsPlaceOf kept field place → entry ≡ get_or kept place entry → IsKnown terms entry.text known.items →
-    AreHints tables (set kept place (record { field = entry.field; text = entry.text; known = known })) room
-hints_tested tables kept room h field terms e place entry known p is k =
-    hints_set tables kept room h field terms e (record { field = entry.field; text = entry.text; known = known }) (field_found kept field place entry p is) k place
+    pub hints_push : AreHints tables (kept ++ entry ∷ []) room
+    hints_push = record {
+      roomy = h.roomy;
+      right = All-push (IsKept tables.fields) kept entry h.right (of_field tables.fields field j entry s same valid known);
+    }
+
+  pub hints_tested : (place : ℕ) (entry : Kept) (known : Vec (Option Bool)) → IsPlaceOf kept field place → entry ≡ get_or kept place entry → IsKnown j.terms entry.text known.items →
+      AreHints tables (set kept place (record { field = entry.field; text = entry.text; known = known })) room
+  hints_tested place entry known p is k =
+      hints_set (record { field = entry.field; text = entry.text; known = known }) (field_found kept field place entry p is) (known_of place entry p is).0 k place
 
 -- ---- a text of which nothing is known
 

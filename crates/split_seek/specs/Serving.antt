@@ -1,14 +1,14 @@
 -- Texts for the fields that a path requires.
-use Rattle.std.specs.Prelude.{◌≡◌, ℕ, Bool, true, false, ◌&&◌, List, length, Option, None, Some, is_some, IfSome}
+use Rattle.std.specs.Prelude.{◌≡◌, ℕ, Bool, true, false, ◌&&◌, if◌then◌else◌, List, [], ◌∷◌, ◌++◌, length, Option, None, Some, is_some, IfSome}
 use Rattle.std.specs.List.{list_any}
 use Rattle.text_base.specs.Asked.{Bytes}
 use Rattle.text_base.specs.declared.request.Field.{Field}
-use Rattle.rx_term.specs.Closing.{Meets, AreApart, Closes}
+use Rattle.rx_term.specs.Closing.{Meets, AreApart}
 use Rattle.field_seek.specs.declared.seen.Seen.{Seen}
 use Rattle.field_seek.specs.declared.seen.Seen.TheVariants as seen
 use Rattle.goal_form.specs.declared.goal.Goal.{Goal}
 use Rattle.goal_form.specs.declared.goal.Node.{Node}
-use Rattle.goal_form.specs.declared.goal.Node.TheVariants.{Capped}
+use Rattle.goal_form.specs.declared.goal.Node.TheVariants.{Closed, Capped}
 use Rattle.goal_form.specs.Fields.{same_field}
 use Rattle.goal_form.specs.Formulas.{Path}
 use Rattle.goal_form.specs.Goals.{is_required, is_claimed_absent, claims_of, has_user}
@@ -20,11 +20,15 @@ use Rattle.split_seek.specs.declared.texts.Service.{Service}
 use Rattle.split_seek.specs.declared.texts.Service.TheVariants as service
 use Rattle.split_seek.specs.Texts.{Texts, text_of, AreSingle}
 
--- what a search for a text of the field gives
-abbrev pub Sought : Goal → ℕ → Path → Field → Seen → Type 0
-Sought goal cap path f (seen.Found text) = Meets (valid_of f) (claims_of goal.atoms path f) text.items
-Sought goal cap path f (seen.Empty words) = Closes (valid_of f) (claims_of goal.atoms path f) words.list
-Sought goal cap path f (seen.Capped words) = (has_user goal.atoms path f ≡ true) × AreApart (valid_of f) (claims_of goal.atoms path f) words.list × (length words.list ≡ cap)
+-- the most states of a search: those allowed where a pattern of the user's stands for the field, and else any number
+abbrev pub limit : Bool → ℕ → Option ℕ
+limit user cap = if user then Some cap else None
+
+-- what becomes of a draft by what a search for a text of the field answers
+abbrev pub IsAdded : Field → Seen → Texts → Option Node → Texts → Option Node → Option Node → Type 0
+IsAdded f (seen.Found text) texts full texts' full' node = (texts' ≡ texts ++ (f, text.items) ∷ []) × (full' ≡ full) × (node ≡ None)
+IsAdded f (seen.Empty words) texts full texts' full' node = node ≡ Some (Closed f words)
+IsAdded f (seen.Capped words) texts full texts' full' node = (texts' ≡ texts) × (full' ≡ Some (Capped f words)) × (node ≡ None)
 
 -- the node is that of a required field with more states than the cap allows
 abbrev pub FullAt : Goal → ℕ → Path → Node → Type 0

@@ -1,5 +1,6 @@
 // Texts that were found before.
 ghost use Rattle.std.specs.Prelude.{◌≡◌, ◌≤◌, IfOk, IfSome};
+ghost use Rattle.rx_term.specs.Language.{In};
 ghost use Rattle.rx_term.specs.Closing.{Meets};
 ghost use Rattle.rx_joint.specs.Claims.{AreChosen, chosen};
 ghost use Rattle.goal_tables.specs.Fields.{IsJointOf};
@@ -25,7 +26,7 @@ pub struct Hints<'a> {
 impl<'a> Model for Hints<'a> {
     ghost use Rattle.std.specs.Coded.{codes};
     ghost use Rattle.rx_term.specs.contracts.terms.Term as of_term;
-    ghost use Rattle.goal_tables.specs.Fields.{TablesMeaning};
+    ghost use Rattle.goal_tables.specs.Meanings.{TablesMeaning};
     ghost use Rattle.split_seek.specs.Known.{AreHints};
 
     ghost Value = { TablesMeaning };
@@ -69,7 +70,7 @@ impl<'a> Hints<'a> {
         joint: &Joint,
         choice: &[(u32, bool)],
     ) -> Result<Option<Vec<u8>>, OutOfMemory>
-        requires joint { IsJointOf self.old.atoms field.now joint.now }
+        requires joint { IsJointOf self.old.fields field.now joint.now }
         requires room { joint.now.room ≤ self.old.room }
         requires choice { AreChosen joint.now.terms choice.now }
         ensures hints { self.new ≡ self.old }
@@ -87,7 +88,7 @@ impl<'a> Hints<'a> {
         }
     }
 
-    /// Keeps the text in place of the field's last one. Nothing is known of it yet.
+    /// Keeps a valid text in place of the field's last one. Nothing is known of it yet.
     pub fn keep(
         &mut self,
         alloc: Global,
@@ -95,7 +96,8 @@ impl<'a> Hints<'a> {
         joint: &Joint,
         text: &[u8],
     ) -> Result<(), OutOfMemory>
-        requires { IsJointOf self.old.atoms field.now joint.now }
+        requires joint { IsJointOf self.old.fields field.now joint.now }
+        requires valid { In text.now joint.now.valid }
         ensures { self.new ≡ self.old }
     {
         let entry = Kept::new(alloc, field, joint, text)?;

@@ -65,7 +65,7 @@ fn is_in(
     yes
 }
 
-/// Whether the text is valid and in each chosen term exactly where the choice says so.
+/// Whether a valid text is in each chosen term exactly where the choice says so.
 pub fn meets(
     joint: &Joint,
     choice: &[(u32, bool)],
@@ -74,15 +74,13 @@ pub fn meets(
     scratch: &mut Scratch,
 ) -> bool
     requires choice { AreChosen joint.now.terms choice.now }
+    requires valid { In text.now joint.now.valid }
     requires room { joint.now.room ≤ scratch.old }
     requires known { IsKnown joint.now.terms text.now known.old.items }
     ensures room { scratch.new ≡ scratch.old }
     ensures known { IsKnown joint.now.terms text.now known.new.items }
     ensures meets { IsTrue result → Meets joint.now.valid (chosen joint.now.terms choice.now) text.now }
 {
-    if !joint.is_valid(text, scratch) {
-        return false;
-    }
     for claim in choice {
         let (number, holds) = *claim;
         if is_in(joint, number, text, known, scratch) != holds {

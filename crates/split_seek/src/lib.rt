@@ -12,4 +12,5 @@ mod serve;
 mod texts;
 
 pub use finding::Finding;
-pub use search::analyse;
+pub use goal_tables::SharedTables;
+pub use search::{analyse, analyse_with};

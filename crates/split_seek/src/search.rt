@@ -11,7 +11,7 @@ use crate::first::first_try;
 use crate::hints::Hints;
 use crate::look::look_at;
 use goal_form::{Goal, Node, Trail};
-use goal_tables::Tables;
+use goal_tables::{SharedTables, Tables};
 use sqlite_items::Items;
 use std::alloc::Global;
 use text_base::OutOfMemory;
@@ -88,16 +88,33 @@ fn search_tree(
 /// the first atom that keeps the goal's value open, where each required field has a text as the path says, and there are at
 /// most `splits` of them. It gives up where the splits are spent, or where a field with a pattern of the configuration has
 /// more than `cap` states on a path; without such a pattern, 2^n - 1 splits suffice for n atoms. `is_well_formed` tells
-/// whether a goal may be passed. Tables are built once in each call.
-pub fn analyse(alloc: Global, goal: &Goal, splits: u32, cap: u32) -> Result<Finding, OutOfMemory>
+/// whether a goal may be passed. Tables are those that goals share; the ones that aren't there are built.
+pub fn analyse_with(
+    alloc: Global,
+    goal: &Goal,
+    shared: &mut SharedTables,
+    splits: u32,
+    cap: u32,
+) -> Result<Finding, OutOfMemory>
     requires { IsWellFormed goal.now }
     ensures answer { IfOk result (Answers goal.now splits cap) }
     ensures decides { IfOk result (λ found. AreEnough goal.now splits cap → IsDecided found) }
 {
-    let tables = Tables::build(alloc, goal)?;
+    let places = shared.places(alloc, goal)?;
+    let tables = Tables::of(goal, shared, places);
     let mut hints = Hints::new(alloc, &tables)?;
     match first_try(alloc, goal, &tables, cap, &mut hints)? {
         Some(request) => Ok(Finding::Reached(request)),
         None => search_tree(alloc, goal, &tables, splits, cap, &mut hints),
     }
+}
+
+/// The same with tables of its own.
+pub fn analyse(alloc: Global, goal: &Goal, splits: u32, cap: u32) -> Result<Finding, OutOfMemory>
+    requires { IsWellFormed goal.now }
+    ensures answer { IfOk result (Answers goal.now splits cap) }
+    ensures decides { IfOk result (λ found. AreEnough goal.now splits cap → IsDecided found) }
+{
+    let mut shared = SharedTables::new(alloc)?;
+    analyse_with(alloc, goal, &mut shared, splits, cap)
 }

@@ -1,22 +1,28 @@
 // A text for each field that a path requires.
-ghost use Rattle.std.specs.Prelude.{◌≡◌, ◌≤◌, Bool, true, ◌||◌, IfOk};
+ghost use Rattle.std.specs.Prelude.{◌≡◌, ◌≤◌, Bool, true, ◌||◌, IfOk, OnOk};
 ghost use Rattle.text_base.specs.declared.request.Field.{Field as AnyField};
 ghost use Rattle.rx_joint.specs.Claims.{AreChosen, chosen};
 ghost use Rattle.field_seek.specs.Seen.{IsSeen};
 ghost use Rattle.goal_form.specs.Fields.{same_field as same};
 ghost use Rattle.goal_form.specs.Goals.{is_required as required};
 ghost use Rattle.goal_tables.specs.Fields.{IsJointOf};
-ghost use Rattle.split_seek.specs.Serving.{Sought, IsDraft, ServesOn, Serves, is_among};
+ghost use Rattle.split_seek.specs.Serving.{limit, IsAdded, IsDraft, ServesOn, Serves, is_among};
 
 use crate::hints::Hints;
 use crate::texts::{Draft, Service, has_text};
 use field_seek::{Seen, seek_among};
-use goal_form::{Goal, Node, copy_field, field_of, has_user, is_claimed_absent};
+use goal_form::{Goal, Node, copy_field, field_of, same_field};
 use goal_tables::{Joint, Tables};
-use rx_auto::Words;
 use sqlite_items::Items;
 use std::alloc::Global;
 use text_base::{Field, OutOfMemory};
+
+/// States are counted only where a pattern of the configuration stands for the field.
+fn limit_of(user: bool, cap: u32) -> Option<u32>
+    ensures { result ≡ limit user cap }
+{
+    if user { Some(cap) } else { None }
+}
 
 /// A text as the choice says: the last one of the field, if it still is, or one that is sought.
 fn seek_or_recall(
@@ -27,7 +33,7 @@ fn seek_or_recall(
     limit: Option<u32>,
     hints: &mut Hints<'_>,
 ) -> Result<Seen, OutOfMemory>
-    requires joint { IsJointOf hints.old.atoms field.now joint.now }
+    requires joint { IsJointOf hints.old.fields field.now joint.now }
     requires room { joint.now.room ≤ hints.old.room }
     requires choice { AreChosen joint.now.terms choice.now }
     ensures hints { hints.new ≡ hints.old }
@@ -43,38 +49,30 @@ fn seek_or_recall(
     Ok(seen)
 }
 
-/// Seeks a valid text of a required field as the path says. States are counted only where a pattern of the configuration
-/// is on the path.
-fn seek_text(
+/// Adds a text of the field to the draft, or tells the leaf that shows that there is none.
+fn add_text(
     alloc: Global,
-    goal: &Goal,
-    tables: &Tables<'_>,
-    path: &[(u32, bool)],
+    seen: Seen,
     field: &Field,
-    cap: u32,
-    hints: &mut Hints<'_>,
-) -> Result<Seen, OutOfMemory>
-    requires tables { tables.now.atoms ≡ goal.now.atoms }
-    requires asked { required goal.now.atoms path.now field.now ≡ true }
-    requires hints { hints.old ≡ tables.now }
-    ensures hints { hints.new ≡ hints.old }
-    ensures sought { IfOk result (Sought goal.now cap path.now field.now) }
+    draft: &mut Draft,
+) -> Result<Option<Node>, OutOfMemory>
+    ensures { IfOk result (λ node. IsAdded field.now seen draft.old.texts draft.old.full draft.new.texts draft.new.full node) }
 {
-    let limit = if has_user(goal, path, field) {
-        Some(cap)
-    } else {
-        None
-    };
-    let choice = tables.choose(alloc, path, field)?;
-    match tables.joint(field) {
-        Some(joint) => seek_or_recall(alloc, joint, field, &choice, limit, hints),
-        None => Ok(Seen::Empty(Words {
-            list: Items::new(alloc),
-        })),
+    let field = copy_field(alloc, field)?;
+    match seen {
+        Seen::Found(text) => {
+            draft.texts.push((field, Items::from_vec(text)))?;
+            Ok(None)
+        }
+        Seen::Empty(words) => Ok(Some(Node::Closed { field, words })),
+        Seen::Capped(words) => {
+            draft.full = Some(Node::Capped { field, words });
+            Ok(None)
+        }
     }
 }
 
-/// Adds a text of the field to the draft, or tells the leaf that shows that there is none.
+/// Serves one more field that the path requires.
 fn serve_field(
     alloc: Global,
     goal: &Goal,
@@ -92,26 +90,32 @@ fn serve_field(
     ensures served { (among : AnyField → Bool) → IsDraft goal.now cap path.now among draft.old.texts draft.old.full
         → IfOk result (ServesOn goal.now cap path.now (λ f. among f || same field.now f) draft.new.texts draft.new.full) }
 {
-    if is_claimed_absent(goal, path, field) {
+    let _ = goal;
+    let Some(claims) = tables.claims(alloc, path, field)? else {
+        unreachable!()
+    };
+    if claims.absent {
         let field = copy_field(alloc, field)?;
         return Ok(Some(Node::Clash { field }));
     }
     if has_text(draft.texts.as_slice(), field) {
         return Ok(None);
     }
-    let seen = seek_text(alloc, goal, tables, path, field, cap, hints)?;
-    let field = copy_field(alloc, field)?;
-    match seen {
-        Seen::Found(text) => {
-            draft.texts.push((field, Items::from_vec(text)))?;
-            Ok(None)
-        }
-        Seen::Empty(words) => Ok(Some(Node::Closed { field, words })),
-        Seen::Capped(words) => {
-            draft.full = Some(Node::Capped { field, words });
-            Ok(None)
+    let limit = limit_of(claims.user, cap);
+    let seen = seek_or_recall(alloc, claims.joint, field, &claims.choice, limit, hints)?;
+    add_text(alloc, seen, field, draft)
+}
+
+/// Adds a field, if it isn't there yet.
+fn add_field(alloc: Global, field: &Field, fields: &mut Items<Field>) -> Result<(), OutOfMemory>
+    ensures { OnOk result ((f : AnyField) → is_among f fields.new ≡ (is_among f fields.old || same field.now f)) }
+{
+    for other in fields.as_slice() {
+        if same_field(other, field) {
+            return Ok(());
         }
     }
+    fields.push(copy_field(alloc, field)?)
 }
 
 /// The fields that are always there, and those that a true step asks for.
@@ -131,7 +135,7 @@ fn required_fields(
     for step in path {
         if step.1 {
             if let Some(atom) = goal.atoms.get(step.0) {
-                fields.push(copy_field(alloc, field_of(atom))?)?;
+                add_field(alloc, field_of(atom), &mut fields)?;
             }
         }
     }

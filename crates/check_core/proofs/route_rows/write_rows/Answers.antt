@@ -1,9 +1,14 @@
-use Rattle.std.proofs.Common.{◌∙◌}
-use Rattle.check_core.proofs.RowsWritten.{one_more, stopped, failed}
+use Rattle.std.proofs.Common.{refl, ◌∙◌}
+use Rattle.check_core.proofs.RowsWritten.{none_written, one_more, stopped, failed}
 use Rattle.check_core.proofs.route_rows.write_rows.Goals as goal
 
+pub returns-in_err-shared : goal.returns-in_err-shared
+returns-in_err-shared g c =
+    stopped c.args.config.now c.args.budgets (g.K.Sink.state c.args.out.now) (g.K.Sink.state c.args.out.now) 0 c.none-counts.result _ c.from_residual.ensures refl
+    (none_written c.args.config.now c.args.budgets _ c.none-counts.result c.none-counts.ensures)
+
 pub returns-in_err-row : goal.returns-in_err-row
-returns-in_err-row g c = stopped _ _ _ _ _ _ _ c.from_residual.ensures c.loop-route.invariant.count c.loop-route.invariant.written
+returns-in_err-row g c = stopped _ _ _ _ _ _ _ c.from_residual-in_err-row.ensures c.loop-route.invariant.count c.loop-route.invariant.written
 
 pub returns-in_err-line : goal.returns-in_err-line
 returns-in_err-line g c = stopped _ _ _ _ _ _ _ c.from_residual-in_err-line.ensures c.loop-route.invariant.count c.loop-route.invariant.written

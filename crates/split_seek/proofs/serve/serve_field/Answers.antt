@@ -1,14 +1,16 @@
-use Rattle.std.proofs.Common.{sym, ◌∙◌}
-use Rattle.rx_term.specs.Closing.{Meets}
-use Rattle.goal_form.specs.Goals.{claims_of}
-use Rattle.goal_form.specs.Valid.{valid_of}
-use Rattle.split_seek.proofs.Drafts.{draft_more}
+use Rattle.std.proofs.Common.{◌≡◌, false, sym, subst, ◌∙◌}
+use Rattle.goal_form.specs.Goals.{is_claimed_absent}
+use Rattle.split_seek.proofs.Drafts.{served_by}
 use Rattle.split_seek.proofs.serve.serve_field.Goals as goal
 
-pub returns-in_ok-push-in-Found-clause-served : goal.returns-in_ok-push-in-Found-clause-served
-returns-in_ok-push-in-Found-clause-served c = λ among d.
+pub returns-clause-served : goal.returns-clause-served
+returns-clause-served c = λ among d.
+    let path = c.args.path.now in
+    let f = c.args.field.now in
+    let s = rw c.in-Some.is at c.in_ok-claims.ensures.some in
+    let absent = subst (λ xs. is_claimed_absent xs path f ≡ false) c.requires.tables (sym s.absent ∙ c.if-claims.false) in
     let none = rw c.as_slice.ensures at c.has_text.ensures in
-    let met : Meets (valid_of c.args.field.now) (claims_of c.args.goal.now.atoms c.args.path.now c.args.field.now) c.in-Found.text.items = rw c.in-Found.is at c.in_ok-seen.ensures.sought in
-    rw (c.in_ok-push-in-Found.ensures.ok, c.in_ok-field-2.ensures, c.from_vec.ensures)
-    (draft_more c.args.goal.now c.args.cap c.args.path.now among c.args.draft.now.texts c.args.draft.now.full d c.args.field.now (sym c.is_claimed_absent.ensures ∙ c.if-is_claimed_absent.false)
-    c.in-Found.text.items (sym none ∙ c.if-has_text.false) c.requires.asked met)
+    let found = rw (c.deref.ensures.value, c.limit_of-limit.ensures) at c.in_ok-seen.ensures.seen in
+    let seen = rw (s.valid, s.claims, s.user, c.requires.tables) at found in
+    served_by c.args.goal.now c.args.cap path among c.args.draft.now.texts c.args.draft.now.full d f absent (sym none ∙ c.if-has_text.false) c.requires.asked c.in_ok-seen.seen seen
+    c.add_text.new.draft.texts c.add_text.new.draft.full c.add_text.result c.add_text.ensures
